@@ -8,7 +8,7 @@ use native.Mathlib.Nat.{eq-or-lt-of-le, zero-add}
 use native.Mathlib.Decide.{decLt}
 use native.Mathlib.Omega.{arith}
 use borrow.Author.Count.{below-more, below-none}
-use borrow.Author.Tests.{eq-eqb, ne-eqb, eqb-true, not-true, not-false}
+use borrow.Author.Tests.{eq-eqb, ne-eqb, eqb-true, eqb-false, not-true, not-false}
 use lib.Dec.{eqb}
 use Rattle.wire.specs.Places.{firstFrom, firstBad, all}
 
@@ -101,6 +101,23 @@ pub all-each : (p : ℕ → Bool) (n : ℕ) → all p n ≡ true → (j : ℕ) �
 unfolding all
 all-each p n h j l = found p n .each j (omega arith) (omega (arith, eqb-true (firstBad p n) n h))
 
+pub each-all : (p : ℕ → Bool) (n : ℕ) → ((j : ℕ) → j < n → p j ≡ true) → all p n ≡ true
+each-all p n h = all-ok p {m = n} {n = n} {r = n} refl (done (record { within = omega arith; each = h }) (omega arith)) refl
+
+pub all-fails : (p : ℕ → Bool) (n : ℕ) → all p n ≡ false → firstBad p n < n
+unfolding all
+all-fails p n h =
+    let other : firstBad p n ≡ n → ⊥ = eqb-false (firstBad p n) n h in
+    let within = found p n .within in
+    omega arith
+
+pub fails-all : (p : ℕ → Bool) (n j : ℕ) → j < n → p j ≡ false → all p n ≡ false
+fails-all p n j l h = go (all p n) refl
+  where
+    go : (t : Bool) → all p n ≡ t → all p n ≡ false
+    go false e = e
+    go true e = absurd (true≢false (sym (all-each p n e j l) ∙ h))
+
 -- both halves of a test that holds
 pub both-left : (a b : Bool) → a && b ≡ true → a ≡ true
 both-left true b h = refl
@@ -109,3 +126,15 @@ both-left false b h = h
 pub both-right : (a b : Bool) → a && b ≡ true → b ≡ true
 both-right true b h = h
 both-right false b h = absurd (true≢false (sym h))
+
+-- one place more
+pub all-more : (p : ℕ → Bool) (n : ℕ) → all p (n + 1) ≡ all p n && p n
+all-more p n = go (all p n) refl (p n) refl
+  where
+    go : (t : Bool) → all p n ≡ t → (u : Bool) → p n ≡ u → all p (n + 1) ≡ t && u
+    go true e true q = each-all p (n + 1) (below-more (λ (j : ℕ). p j ≡ true) n (all-each p n e) q)
+    go true e false q = fails-all p (n + 1) n (omega arith) q
+    go false e u q = fails-all p (n + 1) (firstBad p n) (omega (arith, first-lt)) (found p n .fails first-lt)
+      where
+        first-lt : firstBad p n < n
+        first-lt = all-fails p n e

@@ -1,13 +1,15 @@
--- The laws of a buffer of records of w bytes after a head of h bytes: what a record is after a store in it or in another, and how a buffer is made of its
--- records. Stores are `lib.Seq`'s `sets`, which computes to what straight-line code leaves. Assumes nothing.
+-- The laws of a buffer of records of w bytes after a head of h bytes: what a record is after a store in it or in another, how a buffer is made of its
+-- records, and what a loop that writes one record after the other keeps. Stores are `lib.Seq`'s `sets`, which computes to what straight-line code leaves.
+-- Assumes nothing.
 use mathlib.Core.Path.{_≡_, refl, sym, ap, ap₂, _∙_, subst}
 use mathlib.Core.Logic.{_⊎_, inl, inr, _≢_, ⊎-elim}
-use mathlib.Core.List.{List, [], _∷_, _++_}
+use mathlib.Core.List.{List, [], _∷_, _++_, append-assoc, append-nil}
 use Prim.Native.Nat.{ℕ, zero, suc, _+_, _-_, _*_, _≤_, _<_, min, suc-le-suc}
 use native.Mathlib.Nat.{not-suc-le-zero, le-of-suc-le-suc, zero-lt-suc, mul-zero, mul-suc, add-zero, add-suc, zero-add, suc-add, suc-ne-zero, mul-le-mul-left, le-trans, add-le-add, lt-of-lt-of-le, min-le-left, add-comm}
+use native.Mathlib.Numerals.{add-one}
 use native.Mathlib.Omega.{arith}
 use lib.ListN.{length, getD, set, take, drop, length-set, length-take, length-drop, length-append, take-append-drop}
-use lib.Seq.{sets, length-sets, getD-set-same, getD-set-other, getD-take, getD-drop, ext-getD, length-take-le, drop-drop, take-at, drop-at, take-set-le, drop-append-add}
+use lib.Seq.{sets, sets-eq, length-sets, getD-set-same, getD-set-other, getD-take, getD-drop, ext-getD, length-take-le, drop-drop, take-at, drop-at, take-set-le, drop-append-add, drop-length}
 use Rattle.wire.specs.Records.{slot, gather}
 
 -- ---- single bytes after a run of stores
@@ -40,7 +42,7 @@ lt-or-gt (suc a) zero n = inr (zero-lt-suc a)
 lt-or-gt (suc a) (suc b) n = ⊎-elim (λ l. inl (suc-le-suc l)) (λ l. inr (suc-le-suc l)) (lt-or-gt a b (λ e. n (ap suc e)))
 
 -- two records do not overlap
-apart : (w a b : ℕ) → a < b → w * a + w ≤ w * b
+pub apart : (w a b : ℕ) → a < b → w * a + w ≤ w * b
 apart w a b l = subst (λ (k : ℕ). k ≤ w * b) (mul-suc w a) (mul-le-mul-left w l)
 
 pub slot-getD : (h w b : ℕ) (s : List ℕ) (j : ℕ) → j < w → getD (slot h w b s) j 0 ≡ getD s (h + w * b + j) 0
@@ -148,3 +150,50 @@ gather-slots h w n s e =
 pub slot-gather : (h w n : ℕ) (d : List ℕ) (f : ℕ → List ℕ) → length d ≡ h → ((k : ℕ) → k < n → length (f k) ≡ w) → (b : ℕ) → b < n → slot h w b (d ++ gather n f) ≡ f b
 slot-gather h w n d f e g b l =
     slot-past h w b (d ++ gather n f) ∙ ap (λ (t : List ℕ). take w (drop (w * b) t)) (drop-at d (gather n f) h e) ∙ gather-at w n f g b l
+
+-- ---- a loop that writes one record after the other
+
+-- one record more, at the end
+pub gather-snoc : (n : ℕ) (f : ℕ → List ℕ) → gather (suc n) f ≡ gather n f ++ f n
+unfolding gather
+gather-snoc zero f = append-nil (f 0)
+gather-snoc (suc n) f = ap (λ (t : List ℕ). f zero ++ t) (gather-snoc n (λ k. f (suc k))) ∙ sym (append-assoc (f zero) (gather n (λ k. f (suc k))) (f (suc n)))
+
+-- the first k records are written, the rest of the buffer is as it was
+abbrev pub gathered : ℕ → (ℕ → List ℕ) → List ℕ → ℕ → List ℕ
+gathered w f s k = gather k f ++ drop (w * k) s
+
+pub gathered-none : (w : ℕ) (f : ℕ → List ℕ) (s : List ℕ) → s ≡ gathered w f s 0
+unfolding gather
+gathered-none w f s = ap (λ (k : ℕ). drop k s) (sym (mul-zero w))
+
+module _ (w : ℕ) (f : ℕ → List ℕ) (s : List ℕ) (k : ℕ) (long : (j : ℕ) → length (f j) ≡ w) where
+  pub gathered-length : w * k ≤ length s → length (gathered w f s k) ≡ length s
+  gathered-length l =
+      length-append (gather k f) (drop (w * k) s)
+      ∙ ap₂ (λ (x y : ℕ). x + y) (length-gather w k f (λ j _. long j)) (length-drop (w * k) s)
+      ∙ omega arith
+
+  -- then record k is written
+  pub gathered-more : w * k + w ≤ length s → sets (gathered w f s k) (w * k) (f k) ≡ gathered w f s (k + 1)
+  gathered-more l =
+      let done = length-gather w k f (λ j _. long j) in
+      let whole = gathered-length (omega arith) in
+      sets-eq (f k) (gathered w f s k) (w * k) (omega (arith, long k))
+      ∙ (λ i. take-at (gather k f) (drop (w * k) s) (w * k) done i ++ f k ++ rest i)
+      ∙ ap (λ (t : List ℕ). t ++ drop (w * (k + 1)) s) (sym (gather-snoc k f) ∙ ap (λ (j : ℕ). gather j f) (sym (add-one k)))
+    where
+      next : w * k + length (f k) ≡ w * (k + 1)
+      next = omega (arith, long k, mul-suc w k, ap (λ (j : ℕ). w * j) (add-one k))
+
+      rest : drop (w * k + length (f k)) (gather k f ++ drop (w * k) s) ≡ drop (w * (k + 1)) s
+      rest =
+          ap (λ (j : ℕ). drop (j + length (f k)) (gather k f ++ drop (w * k) s)) (sym (length-gather w k f (λ j _. long j)))
+          ∙ drop-append-add (gather k f) (drop (w * k) s) (length (f k))
+          ∙ drop-drop (length (f k)) (w * k) s
+          ∙ ap (λ (j : ℕ). drop j s) next
+
+-- the whole buffer is written
+pub gathered-all : (w n : ℕ) (f : ℕ → List ℕ) (s : List ℕ) → length s ≡ w * n → gathered w f s n ≡ gather n f
+gathered-all w n f s e =
+    ap (λ (t : List ℕ). gather n f ++ t) (ap (λ (k : ℕ). drop k s) (sym e) ∙ drop-length s) ∙ append-nil (gather n f)
