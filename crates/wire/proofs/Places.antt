@@ -101,8 +101,8 @@ pub all-each : (p : ℕ → Bool) (n : ℕ) → all p n ≡ true → (j : ℕ) �
 unfolding all
 all-each p n h j l = found p n .each j (omega arith) (omega (arith, eqb-true (firstBad p n) n h))
 
-pub each-all : (p : ℕ → Bool) (n : ℕ) → ((j : ℕ) → j < n → p j ≡ true) → all p n ≡ true
-each-all p n h = all-ok p {m = n} {n = n} {r = n} refl (done (record { within = omega arith; each = h }) (omega arith)) refl
+pub all-true : (p : ℕ → Bool) (n : ℕ) → ((j : ℕ) → j < n → p j ≡ true) → all p n ≡ true
+all-true p n h = all-ok p {m = n} {n = n} {r = n} refl (done (record { within = omega arith; each = h }) (omega arith)) refl
 
 pub all-fails : (p : ℕ → Bool) (n : ℕ) → all p n ≡ false → firstBad p n < n
 unfolding all
@@ -132,7 +132,7 @@ pub all-more : (p : ℕ → Bool) (n : ℕ) → all p (n + 1) ≡ all p n && p n
 all-more p n = go (all p n) refl (p n) refl
   where
     go : (t : Bool) → all p n ≡ t → (u : Bool) → p n ≡ u → all p (n + 1) ≡ t && u
-    go true e true q = each-all p (n + 1) (below-more (λ (j : ℕ). p j ≡ true) n (all-each p n e) q)
+    go true e true q = all-true p (n + 1) (below-more (λ (j : ℕ). p j ≡ true) n (all-each p n e) q)
     go true e false q = fails-all p (n + 1) n (omega arith) q
     go false e u q = fails-all p (n + 1) (firstBad p n) (omega (arith, first-lt)) (found p n .fails first-lt)
       where
