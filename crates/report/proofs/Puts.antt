@@ -41,8 +41,8 @@ pub put-last : {l n : List ℕ} {at : ℕ} (a : ℕ) → n ≡ set l at a → Pu
 put-last a e = record { bytes = e; place = refl }
 
 -- a text at the front of a buffer is a line
-pub put-printed : {line l n : List ℕ} {size : ℕ} → Put line l 0 n size → Printed line l n size
-put-printed {line} p = record { bytes = p .bytes; whole = p .place ∙ zero-add (length line) }
+pub put-printed : {line l n : List ℕ} {size : ℕ} → length line ≤ 96 → Put line l 0 n size → Printed line l n size
+put-printed {line} h p = record { bytes = p .bytes; whole = p .place ∙ zero-add (length line); short = omega (arith, p .place) }
 
 -- ---- digits from the last to the first
 

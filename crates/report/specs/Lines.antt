@@ -2,7 +2,7 @@
 -- nothing else. Characters are in ASCII. A store of a run of bytes is the library's `sets` (`lib.Seq`): what lies past the end is not written.
 -- Assumes nothing.
 use mathlib.Core.Path.{_≡_}
-use Prim.Native.Nat.{ℕ, _+_}
+use Prim.Native.Nat.{ℕ, _+_, _≤_}
 use mathlib.Core.List.{List, [], _∷_, _++_}
 use lib.ListN.{length}
 use lib.Seq.{sets}
@@ -53,10 +53,12 @@ endLine cycles findings = endWord ++ field (decimal cycles) ++ field (decimal fi
 unfoldable pub refusedLine : ℕ → List ℕ
 refusedLine number = refusedWord ++ field (decimal number) ++ lineFeed
 
--- general: a line was stored at the front of a buffer, and its length was told
+-- general: a line was stored at the front of a buffer, and its length was told. That it is at most 96 bytes long follows from the line (proofs/Lines); it is said here so
+-- that whoever lends a buffer of 96 bytes finds it.
 pub record Printed (line before after : List ℕ) (size : ℕ) : Type 0 where
   pub bytes : after ≡ sets before 0 line
   pub whole : size ≡ length line
+  pub short : size ≤ 96
 
 -- general: text was stored in a buffer from `at` on, and the place behind it was told
 pub record Put (text before : List ℕ) (at : ℕ) (after : List ℕ) (next : ℕ) : Type 0 where

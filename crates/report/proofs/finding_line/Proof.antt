@@ -1,9 +1,17 @@
 -- `report::finding_line` meets its contract: the word, the four numbers, the two inputs and the line feed, each stored behind the one before.
+use Prim.Native.Nat.{_≤_}
 use borrow.Author.Needs.{needs}
+use lib.ListN.{length}
 use Rattle.report.specs.Lines.{findingWord, findingLine}
+use Rattle.report.proofs.Lines.{finding-short}
 use Rattle.report.proofs.Puts.{put-word, _then_, put-last, put-printed}
 use Rattle.report.proofs.finding_line.Statement.{statement}
 use Rattle.report.proofs.finding_line.Tie as tie
+
+short : (c : tie.Start) → let a = c .args in length (findingLine (a .cycle) (a .block) (a .text) (a .diagnosis) (a .ta) (a .x) (a .tb) (a .y)) ≤ 96
+short c =
+    let a = c .args in
+    finding-short (a .cycle) (a .block) (a .text) (a .diagnosis) (a .ta) (a .x) (a .tb) (a .y) (search needs) (search needs) (search needs) (search needs) (search needs) (search needs)
 
 returns : tie.Need-returns
 unfolding findingLine
@@ -16,7 +24,7 @@ returns c =
     let block = text .before .before .before .before in
     let cycle = block .before .before .before .before in
     let word = cycle .before .before .before .before in
-    put-printed
+    put-printed (short (word .before .before .before .before))
     (put-word findingWord (word .put .ensures)
     then cycle .put-field .ensures .0
     then block .put-field2 .ensures .0
