@@ -1,7 +1,7 @@
 -- `decimal` is decimal notation and no other: reading it back gives the number, it is a numeral, and a numeral is the `decimal` of what it spells. Each law is by the
 -- last digit: a number below 10 is one digit, any other is that of a tenth and its last digit.
 -- Assumes nothing.
-use mathlib.Core.Path.{_≡_, refl, sym, ap, _∙_, subst}
+use mathlib.Core.Path.{_≡_, refl, sym, ap, _∙_}
 use mathlib.Core.Bool.{true, false, true≢false}
 use mathlib.Core.List.{List, [], _∷_, _++_, append-nil, append-assoc}
 use Prim.Native.Nat.{ℕ, zero, suc, _+_, _-_, _*_, _/_, _%_, _^_, _≤_, _<_}

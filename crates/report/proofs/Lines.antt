@@ -1,10 +1,11 @@
 -- How long a line is, and that a buffer which is long enough holds it. Every number of 32 bits has at most 10 digits, so that no line has more than 96 bytes.
 -- Assumes nothing.
-use mathlib.Core.Path.{_≡_, ap, _∙_, sym}
+use mathlib.Core.Path.{_≡_, refl}
 use mathlib.Core.List.{List}
 use Prim.Native.Nat.{ℕ, _≤_, _<_, _^_}
 use native.Mathlib.Omega.{arith}
 use lib.ListN.{length, take, length-append}
+use lib.Seq.{sets}
 use Rattle.wire.proofs.Stores.{take-sets}
 use Rattle.number.specs.Types.{value}
 use Rattle.number.specs.declared.NumType.{NumType}
@@ -36,6 +37,10 @@ pub refused-short : (number : ℕ) → number < 2 ^ 32 → length (refusedLine n
 unfolding refusedLine
 refused-short number n = simp length-append (omega (arith, decimal-ten number n))
 
--- a line that was printed into a buffer no shorter than the line stands whole at its front
-pub printed-whole : {line before after : List ℕ} {size : ℕ} → Printed line before after size → length line ≤ length before → take size after ≡ line
-printed-whole {line} {before} {after} {size} p h = rw (p .bytes) (take-sets line before size (sym (p .whole)) (omega (arith, p .whole)))
+-- a buffer that is long enough holds the line at its front
+pub line-front : (line buffer : List ℕ) → length line ≤ length buffer → take (length line) (sets buffer 0 line) ≡ line
+line-front line buffer h = take-sets line buffer (length line) refl h
+
+-- so whoever lends a buffer of 96 bytes finds the line whole in the bytes that the answer counts
+pub printed-whole : {line before after : List ℕ} {size : ℕ} → Printed line before after size → 96 ≤ length before → take size after ≡ line
+printed-whole {line} {before} {after} {size} p h = rw (p .bytes, p .whole) (line-front line before (omega (arith, p .whole, p .short)))

@@ -21,6 +21,7 @@ put-first {text} {l} {m} {n} {at} a e p = record {
   place = omega (arith, p .place);
 }
 
+-- two characters, and the text behind them
 pub put-second : {text l m n o : List ℕ} {at next : ℕ} (a b : ℕ) → m ≡ set l at a → n ≡ set m (at + 1) b → Put text n (at + 2) o next → Put (a ∷ b ∷ text) l at o next
 put-second {at = at} a b e f p = let two : at + 1 + 1 ≡ at + 2 = omega arith in put-first a e (put-first b f (rw two p))
 

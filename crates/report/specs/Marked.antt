@@ -4,12 +4,12 @@ use Prim.Native.Nat.{ℕ}
 use Prim.Native.Char.{code}
 use Prim.Native.String as String
 use Prim.Native.String.{String}
-use mathlib.Core.List.{List, [], _∷_, _++_}
+use mathlib.Core.List.{List, [], _∷_}
 use lib.IntN.{ℤ, pos, negsuc}
 use Rattle.number.specs.Types.{wordOf}
 use Rattle.number.specs.declared.NumType.{NumType}
 use Rattle.number.specs.declared.NumType.the-variants.{Int16, Uint16, Int32, Uint32}
-use Rattle.report.specs.Lines.{findingLine, endLine, refusedLine, lineFeed}
+use Rattle.report.specs.Lines.{findingLine, endLine, refusedLine}
 
 -- general: the codes of a text's characters
 unfoldable pub codes : String → List ℕ

@@ -1,7 +1,7 @@
 // The lines that the trace program prints, as bytes in a lent buffer: a finding, the end, a refusal. Each function stores its line at the front of the buffer and
 // answers the line's length. What lies past the end of the buffer is not stored; a buffer of 96 bytes takes every line whole.
 ghost use mathlib.Core.Path.{_≡_};
-ghost use Prim.Native.Nat.{_+_, _<_, _≤_};
+ghost use Prim.Native.Nat.{_+_, _≤_};
 ghost use Rattle.number.specs.Types.{value};
 ghost use lib.ListN.{length, set};
 ghost use Rattle.report.specs.Decimal.{decimal, signedDecimal};
@@ -51,9 +51,10 @@ fn digit_count(n: u32) -> usize
     10
 }
 
-// A number in decimal: its last digit goes to the last place, and so on to the front.
+// A number in decimal, stored from `at` on: its last digit goes to the last place, and so on to the front. Answers the place behind it. All places are within a line,
+// so that no sum wraps.
 fn put_decimal(out: &mut [u8], at: usize, n: u32) -> usize
-    requires { ⌜ at < 1024 ⌝ }
+    requires { ⌜ at ≤ 98 ⌝ }
     ensures { λ r. ⌜ Put (decimal n) (now (out .entry)) at (now (out .exit)) r ⌝ }
     ensures { λ r. ⌜ r ≤ at + 10 ⌝ }
 {
@@ -69,9 +70,9 @@ fn put_decimal(out: &mut [u8], at: usize, n: u32) -> usize
     end
 }
 
-// A space and a number.
+// A space and a number, likewise.
 fn put_field(out: &mut [u8], at: usize, n: u32) -> usize
-    requires { ⌜ at < 1000 ⌝ }
+    requires { ⌜ at ≤ 96 ⌝ }
     ensures { λ r. ⌜ Put (field (decimal n)) (now (out .entry)) at (now (out .exit)) r ⌝ }
     ensures { λ r. ⌜ r ≤ at + 11 ⌝ }
 {
@@ -79,9 +80,9 @@ fn put_field(out: &mut [u8], at: usize, n: u32) -> usize
     put_decimal(out, at + 1, n)
 }
 
-// A space and the number of a stored word, signed by its type.
+// A space and the number of a stored word, signed by its type, likewise.
 fn put_input(out: &mut [u8], at: usize, t: NumType, w: u32) -> usize
-    requires { ⌜ at < 1000 ⌝ }
+    requires { ⌜ at ≤ 96 ⌝ }
     ensures { λ r. ⌜ Put (field (signedDecimal (value t w))) (now (out .entry)) at (now (out .exit)) r ⌝ }
     ensures { λ r. ⌜ r ≤ at + 12 ⌝ }
 {

@@ -51,7 +51,7 @@ sets-append [] ws l i = ap (λ (k : ℕ). sets l k ws) (add-zero i)
 sets-append (a ∷ vs) ws l i =
     ap (λ (k : ℕ). sets (sets (set l i a) (suc i) vs) k ws) (add-suc i (length vs) ∙ sym (suc-add i (length vs))) ∙ sets-append vs ws (set l i a) (suc i)
 
--- a store before a run makes it longer, also where the run was stored first
+-- a store in front of a run may come before the run or after it
 pub set-sets-comm : (vs l : List ℕ) (i j a : ℕ) → i < j → set (sets l j vs) i a ≡ sets (set l i a) j vs
 set-sets-comm [] l i j a h = refl
 set-sets-comm (b ∷ vs) l i j a h = set-sets-comm vs (set l j b) i (suc j) a (omega arith) ∙ ap (λ (m : List ℕ). sets m (suc j) vs) (set-comm l j i b a (omega arith))

@@ -1,5 +1,5 @@
 -- `report::put_decimal` meets its contract: after each turn the digits behind those of `rest` stand in the buffer, and the last store is the first digit.
-use mathlib.Core.Path.{_≡_, ap, _∙_}
+use mathlib.Core.Path.{ap, _∙_}
 use native.Mathlib.Omega.{arith}
 use borrow.Author.Needs.{needs}
 use Prim.Native.Nat.{ℕ, _+_}

@@ -1,5 +1,5 @@
 -- `report::put_input` meets its contract: a space, a minus sign where the word's number is below 0, and the digits of its magnitude, which has 32 bits.
-use mathlib.Core.Path.{_≡_, sym, ap, _∙_}
+use mathlib.Core.Path.{sym, ap, _∙_}
 use native.Mathlib.Omega.{arith}
 use borrow.Author.Needs.{needs}
 use Rattle.number.specs.Types.{value}
