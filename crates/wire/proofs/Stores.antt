@@ -8,7 +8,7 @@ use native.Mathlib.Decide.{decLt}
 use native.Mathlib.Numerals.{add-one}
 use native.Mathlib.Omega.{arith}
 use lib.ListN.{length, set, getD, take, drop, length-set, length-drop, drop-of-length-le}
-use lib.Seq.{sets, sets-eq, set-out, take-at, take-suc, take-all, take-nil, length-take-le}
+use lib.Seq.{sets, sets-eq, set-out, set-comm, take-at, take-suc, take-all, take-nil, length-take-le}
 
 pub sets-snoc : (vs l : List ℕ) (i a : ℕ) → set (sets l i vs) (i + length vs) a ≡ sets l i (vs ++ (a ∷ []))
 sets-snoc [] l i a = ap (λ (k : ℕ). set l k a) (add-zero i)
@@ -44,3 +44,14 @@ part-past s at size h = ap (take size) (drop-of-length-le s h) ∙ take-nil size
 -- a part that reaches the end is what is left
 pub part-rest : (s : List ℕ) (at size : ℕ) → length s - at ≤ size → take size (drop at s) ≡ drop at s
 part-rest s at size h = take-all size (drop at s) (simp length-drop h)
+
+-- one run behind another is one run
+pub sets-append : (vs ws l : List ℕ) (i : ℕ) → sets (sets l i vs) (i + length vs) ws ≡ sets l i (vs ++ ws)
+sets-append [] ws l i = ap (λ (k : ℕ). sets l k ws) (add-zero i)
+sets-append (a ∷ vs) ws l i =
+    ap (λ (k : ℕ). sets (sets (set l i a) (suc i) vs) k ws) (add-suc i (length vs) ∙ sym (suc-add i (length vs))) ∙ sets-append vs ws (set l i a) (suc i)
+
+-- a store in front of a run may come before the run or after it
+pub set-sets-comm : (vs l : List ℕ) (i j a : ℕ) → i < j → set (sets l j vs) i a ≡ sets (set l i a) j vs
+set-sets-comm [] l i j a h = refl
+set-sets-comm (b ∷ vs) l i j a h = set-sets-comm vs (set l j b) i (suc j) a (omega arith) ∙ ap (λ (m : List ℕ). sets m (suc j) vs) (set-comm l j i b a (omega arith))

@@ -1,0 +1,49 @@
+-- `report::put_decimal` meets its contract: after each turn the digits behind those of `rest` stand in the buffer, and the last store is the first digit.
+use mathlib.Core.Path.{ap, _∙_}
+use native.Mathlib.Omega.{arith}
+use borrow.Author.Needs.{needs}
+use Prim.Native.Nat.{ℕ, _+_}
+use denote.Ref.{now}
+use Rattle.report.proofs.Decimal.{decimal-ten}
+use Rattle.report.proofs.Puts.{Behind, behind-none, behind-kept, behind-some, behind-more, behind-all}
+use Rattle.report.proofs.put_decimal.Statement.{statement}
+use Rattle.report.proofs.put_decimal.Tie as tie
+
+abbrev Inv-loop : tie.InvT-loop
+Inv-loop out₀ at n end to₀ rest₀ out to rest = Behind out₀ at n out to rest
+
+abbrev μ-loop : tie.MeasureT-loop
+μ-loop out₀ at n end to₀ rest₀ out to rest = rest
+
+returns : tie.Need-returns Inv-loop μ-loop
+returns c =
+    let at-loop = c .before .before .before .before .before in
+    let a = at-loop .before .before .before .args in
+    let count = at-loop .before .digit-count .ensures in (
+      record {
+        bytes = behind-all (at-loop .loop .inv) (omega arith) (c .before .before .put-byte2 .ensures);
+        place = ap (λ (k : ℕ). a .at + k) count;
+      },
+      omega (arith, count, decimal-ten (a .n) (search needs)),
+    )
+
+pub put-decimal-spec : {M : Type 1} → statement M
+put-decimal-spec =
+    tie.close
+    (tie.spec
+    Inv-loop
+    μ-loop
+    (λ c κs. search needs)
+    (λ c. omega (arith, c .digit-count .ensures, decimal-ten (c .before .before .args .n) (search needs)))
+    (λ c. behind-none (now (c .before .before .args .out)) (c .before .before .args .at) (c .before .before .args .n) (c .digit-count .ensures))
+    (λ c. omega (arith, behind-some (c .before .loop .inv)))
+    (λ c. search needs)
+    (λ c. search needs)
+    (λ c κs. search needs)
+    (λ c. search needs)
+    (λ c. behind-more (c .before .before .before .before .before .loop .inv) (omega arith) (c .before .before .put-byte .ensures))
+    (λ c. search needs)
+    (λ c. search needs)
+    (λ c κs. search needs)
+    (λ c. c .before .before .put-byte2 .kept .0 ∙ behind-kept (c .before .before .before .before .before .loop .inv))
+    returns)

@@ -1,0 +1,61 @@
+// Prints the line of each record of standard input, so that a second source can be compared. A record has 20 bytes, numbers little endian: the kind of line
+// (0 a finding, 1 the end, any other a refusal), the block or the refusal's number, the types of the first input and the second (0 INT16, 1 UINT16, 2 INT32,
+// 3 UINT32), the text ID (2), the diagnosis (2), the cycle or the count of cycles (4), the first word or the count of findings (4), the second word (4). A record
+// that is broken off ends the run.
+ghost use Prim.Native.Nat.{_≤_};
+use libc::STDIN_FILENO;
+use libc::STDOUT_FILENO;
+
+// The line of one record, in a buffer; answers how long it is.
+fn line(record: &[u8], out: &mut [u8]) -> usize
+    ensures { λ r. ⌜ r ≤ 96 ⌝ }
+{
+    let kind = wire::byte(record, 0);
+    let number = wire::byte(record, 1);
+    let cycle = wire::read32(record, 8);
+    let x = wire::read32(record, 12);
+    if kind == 0 {
+        let ta = number::type_of(wire::byte(record, 2));
+        let tb = number::type_of(wire::byte(record, 3));
+        let text = wire::read16(record, 4);
+        let diagnosis = wire::read16(record, 6);
+        let y = wire::read32(record, 16);
+        return report::finding_line(out, cycle, number, text, diagnosis, ta, x, tb, y);
+    }
+    if kind == 1 {
+        return report::end_line(out, cycle, x);
+    }
+    report::refused_line(out, number)
+}
+
+// Prints the line of one record.
+fn print(record: &[u8]) {
+    let mut out = [0u8; 96];
+    let used = line(record, &mut out);
+    io::write_all(STDOUT_FILENO, &out[..used]);
+}
+
+// Prints the lines of all whole records.
+fn lines(records: &[u8]) {
+    let mut done = 0;
+    while 20 <= records.len() - done {
+        print(&records[done..]);
+        done += 20;
+    }
+}
+
+// Reads up to 200 records, prints their lines, and answers whether there may be more.
+fn some() -> bool {
+    let mut records = [0u8; 4000];
+    let n = io::read_full(STDIN_FILENO, &mut records);
+    lines(&records[..n]);
+    n == 4000
+}
+
+// Nothing says that the input ends, so the loop counts its turns down, from a number that no run uses up.
+fn main() {
+    let mut turns = u64::MAX;
+    while turns > 0 && some() {
+        turns -= 1;
+    }
+}
