@@ -112,7 +112,7 @@ part-suc : (w b : ℕ) (s : List ℕ) → take w (drop (w * suc b) s) ≡ take w
 part-suc w b s = ap (take w) (ap (λ (k : ℕ). drop k s) (mul-suc w b ∙ add-comm (w * b) w) ∙ sym (drop-drop (w * b) w s))
 
 -- a record of what was gathered
-gather-at : (w n : ℕ) (f : ℕ → List ℕ) → ((k : ℕ) → k < n → length (f k) ≡ w) → (b : ℕ) → b < n → take w (drop (w * b) (gather n f)) ≡ f b
+pub gather-at : (w n : ℕ) (f : ℕ → List ℕ) → ((k : ℕ) → k < n → length (f k) ≡ w) → (b : ℕ) → b < n → take w (drop (w * b) (gather n f)) ≡ f b
 unfolding gather
 gather-at w zero f h b l = absurd (not-suc-le-zero l)
 gather-at w (suc n) f h zero l =
@@ -134,7 +134,7 @@ gather-parts w (suc n) s e =
     ∙ take-append-drop w s
 
 -- a buffer's record b, past a head
-slot-past : (h w b : ℕ) (s : List ℕ) → slot h w b s ≡ take w (drop (w * b) (drop h s))
+pub slot-past : (h w b : ℕ) (s : List ℕ) → slot h w b s ≡ take w (drop (w * b) (drop h s))
 unfolding slot
 slot-past h w b s = ap (take w) (sym (drop-drop (w * b) h s))
 
