@@ -109,3 +109,21 @@ both-left false b h = h
 pub both-right : (a b : Bool) → a && b ≡ true → b ≡ true
 both-right true b h = h
 both-right false b h = absurd (true≢false (sym h))
+
+-- `all` of what holds at each place, and of one place more
+pub all-true : (p : ℕ → Bool) (n : ℕ) → ((j : ℕ) → j < n → p j ≡ true) → all p n ≡ true
+unfolding all
+all-true p n h = eq-eqb (firstBad p n) n (sym (done (record { within = omega arith; each = h }) (omega arith)))
+
+pub all-more : (p : ℕ → Bool) (n : ℕ) → all p (n + 1) ≡ all p n && p n
+all-more p n = go (all p n) refl (p n) refl (all p (n + 1)) refl
+  where
+    held : all p (n + 1) ≡ true → (j : ℕ) → j < n + 1 → p j ≡ true
+    held h = all-each p (n + 1) h
+
+    go : (a : Bool) → all p n ≡ a → (b : Bool) → p n ≡ b → (c : Bool) → all p (n + 1) ≡ c → c ≡ a && b
+    go true x true y c z = sym z ∙ all-true p (n + 1) (below-more (λ (j : ℕ). p j ≡ true) n (all-each p n x) y)
+    go true x false y true z = sym (held z n (omega arith)) ∙ y
+    go true x false y false z = refl
+    go false x b y true z = sym (all-true p n (λ j l. held z j (omega arith))) ∙ x
+    go false x b y false z = refl

@@ -1,0 +1,5 @@
+pub mod Parts
+pub mod Placed
+pub mod Marking
+pub mod Numbers
+pub mod Facts
