@@ -3,7 +3,7 @@
 use mathlib.Core.Path.{_≡_, refl, sym, ap, _∙_, subst}
 use mathlib.Core.Bool.{Bool, true, false, cond}
 use mathlib.Core.List.{List}
-use Prim.Native.Nat.{ℕ, suc, _+_, _*_, _<_, _≤_}
+use Prim.Native.Nat.{ℕ, suc, _*_, _<_, _≤_}
 use native.Mathlib.Nat.{mul-comm, mul-suc, mul-le-mul-left}
 use native.Mathlib.Decide.{decLt}
 use native.Mathlib.Omega.{arith}
@@ -11,14 +11,14 @@ use lib.ListN.{length}
 use Rattle.wire.specs.Places.{all}
 use Rattle.wire.proofs.Places.{all-each}
 use Rattle.wire.proofs.Records.{length-slot}
-use Rattle.kind.specs.Kinds.{DECOUPLE, TWOHAND, EL6910, available}
-use Rattle.kind.specs.Parameters.{activeMask, parametersOk}
-use Rattle.kind.specs.Ports.{BOOL, portsIn, portsOut, typeIn, typeOut}
+use Rattle.kind.specs.Kinds.{DECOUPLE, TWOHAND, EL6910}
+use Rattle.kind.specs.Parameters.{activeMask}
+use Rattle.kind.specs.Ports.{BOOL, portsIn}
 use Rattle.casefile.specs.declared.Source.{Source}
 use Rattle.casefile.specs.declared.Source.the-variants.{Nothing, External, Output}
 use Rattle.casefile.specs.declared.Verdict.{Verdict}
 use Rattle.casefile.specs.declared.Verdict.the-variants.{Accepted, BadSize, BadContents, BadGroups, BadInputs, BadBlocks, BadOrder, BadLinks, BadOutputs, BadTrace}
-use Rattle.casefile.specs.Layout.{contentsSize, bodyG, bodyI, bodyB, bodyO, bodyT, bodyStart, bodySize, device, groupCount, runLinked, inputCount, inputRecord, inputGroup, inputType, blockCount, blockRecord, zeroIn, linkCount, kindOf, groupOf, orderOf, parametersOf, linkOf, outputCount, outputRecord, outputGroup, outputBlock, outputPort, recordSize, recordCount, recordOf}
+use Rattle.casefile.specs.Layout.{contentsSize, bodyI, bodyB, bodyO, bodyT, bodyStart, bodySize, device, groupCount, runLinked, inputCount, inputRecord, inputGroup, inputType, blockCount, blockRecord, kindOf, orderOf, parametersOf, linkOf, outputCount, outputRecord, recordSize, recordCount, recordOf}
 use Rattle.casefile.specs.Rules.{sizeOk, contentsOk, groupsSizeOk, groupOk, inputsSizeOk, inputOk, blocksSizeOk, blockOk, otherOrder, orderOk, blockAt, linked, bitOf, linkOk, linksOk, outputsSizeOk, outputOk, nothingReads, channelOk, channelsOk, traceOk}
 use Rattle.casefile.specs.Refusal.{unless, from9, from8c, from8v, from8, from7, from6, from5v, from5, from4v, from4, from3v, from3, from2, verdict, numberOf}
 use Rattle.casefile.proofs.Facts.{long-enough, short-enough, Starts, starts, Groups, groups, run-known, run-needed, Whole, inputs, input-group, input-type, some-blocks, blocks, BlockGood, block, order-below, order-other, ExternalGood, OutputGood, SourceGood, source-good, past-links, hand, outputs, RecordGood, output, channel, trace}

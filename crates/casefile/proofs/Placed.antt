@@ -2,11 +2,11 @@
 -- Assumes nothing.
 use mathlib.Core.Path.{_≡_, ap, _∙_}
 use mathlib.Core.List.{List}
-use Prim.Native.Nat.{ℕ, _+_, _*_, _<_}
+use Prim.Native.Nat.{ℕ, _<_}
 use native.Mathlib.Omega.{arith}
 use Rattle.wire.specs.Records.{slot}
 use Rattle.casefile.specs.declared.Layout.{Layout}
-use Rattle.casefile.specs.Layout.{bodyG, bodyI, bodyB, bodyO, bodyT, bodyStart, bodySize, device, groupCount, runAt, runLinked, inputSize, inputCount, inputRecord, blockSize, blockCount, blockRecord, outputSize, outputCount, outputRecord, recordSize, recordCount, recordOf, layoutOf}
+use Rattle.casefile.specs.Layout.{device, groupCount, runAt, runLinked, inputSize, inputCount, inputRecord, blockSize, blockCount, blockRecord, outputSize, outputCount, outputRecord, recordSize, recordOf, layoutOf}
 
 module _ (F : List ℕ) {l : Layout} (e : l ≡ layoutOf F) where
   pub is-device : l .device ≡ device F

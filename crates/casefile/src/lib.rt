@@ -6,7 +6,7 @@ ghost use Prim.Native.Nat.{_+_, _*_, _<_, _≤_};
 ghost use lib.ListN.{length};
 ghost use Rattle.wire.specs.Records.{slot};
 ghost use Rattle.wire.specs.Places.{firstBad, all};
-ghost use Rattle.casefile.specs.Layout.{bodyStart, bodySize, device as deviceIn, groupCount, runAt, inputCount, inputGroupIn, inputTypeIn, blockCount, kindIn, groupIn, orderIn, zeroIn, parametersIn, linkKindIn, linkIndexIn, linkPortIn, linkIn, outputCount, outputGroupIn, outputBlockIn, outputPortIn, layoutOf};
+ghost use Rattle.casefile.specs.Layout.{bodyStart, bodySize, groupCount, runAt, inputGroupIn, inputTypeIn, blockCount, kindIn, groupIn, orderIn, zeroIn, parametersIn, linkKindIn, linkIndexIn, linkPortIn, linkIn, outputCount, outputGroupIn, outputBlockIn, outputPortIn, layoutOf};
 ghost use Rattle.casefile.specs.Rules.{sizeOk, followsOk, contentsOk, groupsSizeOk, groupRule, inputsSizeOk, inputRule, blocksSizeOk, blockRule, orderOk, linkKnown, sourceFits, linked, bitOf, linkActive, linkOk, outputsSizeOk, outputRule, passes, linkPasses, blockPasses, outputPasses, channelRule, channelOk, channelsOk, traceOk};
 ghost use Rattle.casefile.specs.Rows.{rowOk};
 ghost use Rattle.casefile.specs.Marks.{Marked, Meant};
@@ -256,7 +256,7 @@ pub enum Verdict {
 }
 
 // The tables of the file whose records are tested one by one.
-pub enum Rows {
+enum Rows {
     Groups,
     Inputs,
     Blocks,
@@ -410,7 +410,7 @@ fn source_fits(file: &[u8], l: Layout, r: &[u8], port: u8, s: Source) -> bool
 }
 
 // 1 for what is linked, 0 for nothing.
-fn is_linked(s: Source) -> u8
+fn link_bit(s: Source) -> u8
     ensures { λ r. ⌜ r ≡ linked s ⌝ }
 {
     match s {
@@ -443,7 +443,7 @@ fn link_active(r: &[u8], port: u8) -> bool
     if 4 <= port {
         return true;
     }
-    is_linked(source_of(r, port)) == bit_of(kind::active_mask(parameters_of(r)), port)
+    link_bit(source_of(r, port)) == bit_of(kind::active_mask(parameters_of(r)), port)
 }
 
 fn link_ok(file: &[u8], l: Layout, r: &[u8], port: u8) -> bool
@@ -605,7 +605,7 @@ fn mark_outputs(marks: &mut [u8], file: &[u8], l: Layout)
 fn channel_rule(r: &[u8], port: u8, read: u8) -> bool
     ensures { λ x. ⌜ x ≡ channelRule (now (r .entry)) port read ⌝ }
 {
-    !(kind_of(r) == kind::DECOUPLE) | (is_linked(source_of(r, port)) == read)
+    !(kind_of(r) == kind::DECOUPLE) | (link_bit(source_of(r, port)) == read)
 }
 
 // 8: the first wrong channel of block b, or 8.

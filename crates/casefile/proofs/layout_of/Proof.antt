@@ -1,9 +1,9 @@
 -- `casefile::layout_of` meets its contract: each field is what a callee read.
-use mathlib.Core.Path.{ap, ap₂, _∙_}
+use mathlib.Core.Path.{ap, _∙_}
 use Prim.Native.Nat.{ℕ, _+_, _*_, _/_}
 use borrow.Author.Needs.{needs}
 use denote.Ref.{now}
-use Rattle.casefile.specs.Layout.{layoutOf, device, inputCount, blockCount, outputCount, recordCount, recordSize, bodyStart, groupCount}
+use Rattle.casefile.specs.Layout.{layoutOf, device, inputCount, blockCount, outputCount, recordCount, recordSize}
 use Rattle.wire.specs.Words.{byteAt}
 use Rattle.casefile.proofs.layout_of.Statement.{statement}
 use Rattle.casefile.proofs.layout_of.Tie as tie
