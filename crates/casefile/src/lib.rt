@@ -23,7 +23,9 @@ const BODY_O: u8 = 3;
 
 const BODY_T: u8 = 4;
 
-// The sizes of the records of I, B and O.
+// The size of the table of contents, and of the records of I, B and O.
+const CONTENTS_SIZE: usize = 40;
+
 const INPUT_SIZE: usize = 2;
 
 const BLOCK_SIZE: usize = 40;
@@ -268,7 +270,7 @@ enum Rows {
 fn size_ok(file: &[u8]) -> bool
     ensures { λ r. ⌜ r ≡ sizeOk (now (file .entry)) ⌝ }
 {
-    (40 <= file.len()) & (file.len() <= 65536)
+    (CONTENTS_SIZE <= file.len()) & (file.len() <= 65536)
 }
 
 // 2: body e + 1 starts where body e ends.
@@ -282,7 +284,7 @@ fn follows_ok(file: &[u8], e: u8) -> bool
 fn contents_ok(file: &[u8]) -> bool
     ensures { λ r. ⌜ r ≡ contentsOk (now (file .entry)) ⌝ }
 {
-    (body_start(file, BODY_G) == 40)
+    ((body_start(file, BODY_G) as usize) == CONTENTS_SIZE)
         & follows_ok(file, BODY_G)
         & follows_ok(file, BODY_I)
         & follows_ok(file, BODY_B)
@@ -311,9 +313,9 @@ fn inputs_size_ok(file: &[u8], l: Layout) -> bool
     requires { ⌜ l ≡ layoutOf (now file) ⌝ }
     ensures { λ r. ⌜ r ≡ inputsSizeOk (now (file .entry)) ⌝ }
 {
-    let size = body_size(file, BODY_I);
+    let size = body_size(file, BODY_I) as usize;
     let inputs = l.inputs;
-    (size % 2 == 0) & (inputs <= 128)
+    (size % INPUT_SIZE == 0) & (inputs <= 128)
 }
 
 fn input_rule(groups: usize, r: &[u8]) -> bool
@@ -327,9 +329,9 @@ fn blocks_size_ok(file: &[u8], l: Layout) -> bool
     requires { ⌜ l ≡ layoutOf (now file) ⌝ }
     ensures { λ r. ⌜ r ≡ blocksSizeOk (now (file .entry)) ⌝ }
 {
-    let size = body_size(file, BODY_B);
+    let size = body_size(file, BODY_B) as usize;
     let blocks = l.blocks;
-    (size % 40 == 0) & (1 <= blocks) & (blocks <= 64)
+    (size % BLOCK_SIZE == 0) & (1 <= blocks) & (blocks <= 64)
 }
 
 fn block_rule(device: u8, groups: usize, r: &[u8]) -> bool
@@ -476,9 +478,9 @@ fn outputs_size_ok(file: &[u8], l: Layout) -> bool
     requires { ⌜ l ≡ layoutOf (now file) ⌝ }
     ensures { λ r. ⌜ r ≡ outputsSizeOk (now (file .entry)) ⌝ }
 {
-    let size = body_size(file, BODY_O);
+    let size = body_size(file, BODY_O) as usize;
     let outputs = l.outputs;
-    (size % 3 == 0) & (outputs <= 64)
+    (size % OUTPUT_SIZE == 0) & (outputs <= 64)
 }
 
 fn output_rule(groups: usize, blocks: usize, r: &[u8], other: &[u8]) -> bool

@@ -1,7 +1,6 @@
 // Checks case files, for the tests: a request on standard input is the length of a file and the length of what stands in front (each 32-bit, little endian),
 // then that front; the rest of the file is zeros. For each the paper's number is printed on a line, 0 for accepted. It ends where the input does. A
 // request for more than there is room for, or one that breaks off, ends it with a line on standard error.
-ghost use Prim.Native.Nat.{_<_};
 use libc::STDERR_FILENO;
 use libc::STDIN_FILENO;
 use libc::STDOUT_FILENO;
