@@ -1,0 +1,9 @@
+pub mod Parts
+pub mod Placed
+pub mod Marking
+pub mod Numbers
+pub mod Facts
+pub mod Onto
+pub mod Listing
+pub mod Accepted
+pub mod Bytes
