@@ -1,0 +1,10 @@
+-- `block::moved` meets its contract: its test says whether the code stays.
+use borrow.Author.Needs.{needs}
+use borrow.Author.Tests.{eq-eqb, ne-eqb}
+use Rattle.block.specs.Step.{moved}
+use Rattle.block.proofs.moved.Statement.{statement}
+use Rattle.block.proofs.moved.Tie as tie
+
+pub moved-spec : {M : Type 1} → statement M
+unfolding moved
+moved-spec = tie.close (tie.spec (λ c. search needs) (λ c. search needs) (λ c. search needs) (λ c. rw (eq-eqb _ _ (c .if1 .taken))) (λ c. search needs) (λ c. search needs) (λ c. rw (ne-eqb _ _ (c .if1 .left))))

@@ -1,0 +1,9 @@
+-- `block::twohand_fault` meets its contract: one test after the other, as the definition has them.
+use borrow.Author.Needs.{needs}
+use Rattle.block.specs.Step.{twohandFault}
+use Rattle.block.proofs.twohand_fault.Statement.{statement}
+use Rattle.block.proofs.twohand_fault.Tie as tie
+
+pub twohand-fault-spec : {M : Type 1} → statement M
+unfolding twohandFault
+twohand-fault-spec = tie.close (tie.spec (λ c κs. search needs) (λ c κs. search needs) (λ c κs. search needs) (λ c κs. search needs) (λ c. cc))

@@ -1,0 +1,5 @@
+pub mod State
+pub mod Inputs
+pub mod Step
+pub mod Shows
+pub mod Finding
