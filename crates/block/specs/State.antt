@@ -86,10 +86,17 @@ freshState = plain STOP
 abbrev pub untimed : BlockState → Bool
 untimed c = eqb (c .first) 0 && eqb (c .second) 0 && eqb (c .entry) 0
 
--- 01, "One cycle": DECOUPLE has only 1 and 2; "Block state": stored output 0 to 255, and 0 outside state 1
+-- 01, "Block state": stored output 0 outside state 1
+abbrev pub zeroOutside : BlockState → Bool
+zeroOutside c = eqb (c .code) RUN || eqb (c .output) 0
+
+-- 01, "One cycle": DECOUPLE has only 1 and 2
+abbrev pub decoupleCode : ℕ → Bool
+decoupleCode code = eqb code RUN || eqb code STOP
+
+-- 01, "Block state": diagnosis nonzero exactly in 4, in which DECOUPLE is never; stored output 0 to 255
 unfoldable pub decoupleOk : BlockState → Bool
-decoupleOk c =
-    (eqb (c .code) RUN || eqb (c .code) STOP) && eqb (c .diagnosis) 0 && untimed c && ltb (c .output) 256 && (eqb (c .code) RUN || eqb (c .output) 0)
+decoupleOk c = decoupleCode (c .code) && eqb (c .diagnosis) 0 && untimed c && ltb (c .output) 256 && zeroOutside c
 
 -- 01, "One cycle": arithmetic has 1, 2, 4, 5
 abbrev pub arithmeticCode : ℕ → Bool
@@ -106,7 +113,7 @@ arithmeticOk P c =
     && arithmeticDiagnosis (c .code) (c .diagnosis)
     && untimed c
     && inside (typeOf (outputType P)) (c .output)
-    && (eqb (c .code) RUN || eqb (c .output) 0)
+    && zeroOutside c
 
 -- 01, "One cycle": TWOHAND has all codes
 abbrev pub twohandCode : ℕ → Bool

@@ -270,7 +270,7 @@ pub fn bit_below(word: u32, bits: u32) -> u32
 
 // The effective value of one input, from its bits of the active mask, of the normally-open mask and of the raw inputs.
 fn effective_bit(active: u32, opened: u32, raw: u32) -> u32
-    ensures { λ r. ⌜ r ≡ effectiveBit (active % 2) (opened % 2) (raw % 2) ⌝ }
+    ensures { λ r. ⌜ (r ≡ effectiveBit (active % 2) (opened % 2) (raw % 2)) × (r ≤ 1) ⌝ }
 {
     (active % 2) * ((raw % 2 + opened % 2) % 2)
 }

@@ -6,4 +6,14 @@ use Rattle.block.proofs.load.Tie as tie
 
 pub load-spec : {M : Type 1} → statement M
 unfolding decode
-load-spec = tie.close (tie.spec (λ c κs. search needs) (λ c κs. search needs) (λ c κs. search needs) (λ c κs. search needs) (λ c κs. search needs) (λ c κs. search needs) (λ c. λ i. record { code = c .before .before .before .before .before .byte .ensures i; diagnosis = c .before .before .before .before .read16 .ensures i; first = c .before .before .before .read162 .ensures i; second = c .before .before .read163 .ensures i; entry = c .before .read164 .ensures i; output = c .read32 .ensures i }))
+load-spec =
+    tie.close
+    (tie.spec
+    (λ c κs. search needs)
+    (λ c κs. search needs)
+    (λ c κs. search needs)
+    (λ c κs. search needs)
+    (λ c κs. search needs)
+    (λ c κs. search needs)
+    (λ c.
+    λ i. record { code = c .before .before .before .before .before .byte .ensures i; diagnosis = c .before .before .before .before .read16 .ensures i; first = c .before .before .before .read162 .ensures i; second = c .before .before .read163 .ensures i; entry = c .before .read164 .ensures i; output = c .read32 .ensures i }))
