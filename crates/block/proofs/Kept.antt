@@ -209,7 +209,7 @@ step-good k P phase ack ms x y old h o =
     let s = sort k P h in
     steps (ends k P s old o) phase ack ms x y (runs k P s ms x y old)
 
-state-of : (k : ℕ) (P s : List ℕ) → wellFormed k P s ≡ true → stateOk k P (decode s) ≡ true
+pub state-of : (k : ℕ) (P s : List ℕ) → wellFormed k P s ≡ true → stateOk k P (decode s) ≡ true
 unfolding wellFormed
 state-of k P s h = both-right (spareOk s) (stateOk k P (decode s)) h
 

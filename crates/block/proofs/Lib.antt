@@ -4,3 +4,5 @@ pub mod Gather
 pub mod Bytes
 pub mod TwohandFormed
 pub mod Kept
+pub mod Marked
+pub mod Shown
