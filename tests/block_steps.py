@@ -9,7 +9,7 @@ what it prints with the other.
 BATCH is the program `batch` of the reference implementation of document 01, a second source that was written apart from the Rattle code: it
 answers requests `Y` (a case file, a cycle record, state, outputs, findings) with what one cycle leaves. Each sequence becomes a case file of
 one block, in a group whose Run is linked, with an external input for each linked port and an external output for each port, and runs there
-cycle by cycle from the fresh state. The lines are the state bytes, the outputs and the finding that the reference leaves. The phase and ErrAck
+cycle by cycle from the fresh state or from another well-formed one. The lines are the state bytes, the outputs and the finding that the reference leaves. The phase and ErrAck
 that the program is given are computed here from the group bytes that are sent, by the three steps of document 01, "One cycle", and the group
 byte that they give is compared with the reference's.
 
@@ -104,10 +104,16 @@ class Vectors:
     def __init__(self, reference):
         self.reference, self.stdin, self.stdout, self.count = reference, b'', [], 0
 
-    def sequence(self, block, cycles):
-        """Cycles are (group byte, elapsed ms, words by port); the block's states, line by line."""
-        file, state, held = block.file(), bytes([0]) + FRESH, 0
-        self.stdin += bytes([block.kind]) + block.parameters + bytes([len(cycles)])
+    def well_formed(self, block, state):
+        record = struct.pack('<HB', 10, RUN) + bytes(4 * len(block.linked))
+        refusal = self.reference.cycle(block.file(), record, bytes([0]) + state, bytes(4 * len(block.shown)), bytes(16))[0]
+        assert refusal in (0, 11), refusal
+        return refusal == 0
+
+    def sequence(self, block, cycles, start=None):
+        """Cycles are (group byte, elapsed ms, words by port); the block's states, line by line, from the fresh state or from `start`."""
+        file, state, held = block.file(), bytes([0]) + (start or FRESH), 0
+        self.stdin += bytes([block.kind]) + block.parameters + bytes([len(cycles)]) + (start or bytes(16))
         for group, ms, words in cycles:
             held, phase = group_step(held, group, group & (COM | FAULT) or state[1] == ERROR)
             record = struct.pack('<HB', ms, group) + b''.join(struct.pack('<I', words[p]) for p in block.linked)
@@ -123,14 +129,10 @@ class Vectors:
 
     def states(self, block, states):
         """Whether each state is well formed."""
-        file = block.file()
         self.stdin += bytes([128 + block.kind]) + block.parameters + bytes([len(states)])
         for state in states:
-            record = struct.pack('<HB', 10, RUN) + bytes(4 * len(block.linked))
-            refusal = self.reference.cycle(file, record, bytes([0]) + state, bytes(4 * len(block.shown)), bytes(16))[0]
-            assert refusal in (0, 11), refusal
             self.stdin += state
-            self.stdout.append('formed' if refusal == 0 else 'refused')
+            self.stdout.append('formed' if self.well_formed(block, state) else 'refused')
 
 
 def raw(block, bits):
@@ -143,6 +145,10 @@ def hands(block, *cycles):
     """Cycles of a TWOHAND: effective bits, port 0 the lowest, then elapsed ms (10) and group byte (Run)."""
     full = [c if isinstance(c, tuple) else (c,) for c in cycles]
     return [(c[2] if len(c) > 2 else RUN, c[1] if len(c) > 1 else 10, raw(block, c[0])) for c in full]
+
+
+def state(code, diagnosis=0, first=0, second=0, entry=0, output=0, spare=0, spare2=0):
+    return struct.pack('<BBHHHHHI', code, spare, diagnosis, first, second, entry, spare2, output % 2**32)
 
 
 def directed_twohand(vectors):
@@ -200,12 +206,26 @@ def directed_twohand(vectors):
             vectors.sequence(b, hands(b, 0, (hand, 33), *held, (0, rest + 1), (0, 1, RUN | ACK), 0))
             vectors.sequence(b, hands(b, 0, (hand, 33), *held, (other, rest + 1), (other, 1, RUN | ACK), (0, 1, RUN | ACK), 0))
             vectors.sequence(b, hands(b, 0, (hand, 33), (hand, 1), (0, 1), (hand, 1), *held[:1], (hand, 1)))
-    # all bits together, in 11 and in 12: the one pair has let go on one side, the other is full, and both times are over
+    # bits together, as far as cycles from the fresh state lead there: 0 and 1; 1 and 2 in 11; 0 and 2 in 12; 2 and 6
     b = twohand(d1=20, d2=20, t=30)
+    vectors.sequence(b, hands(b, 0, (0b0101, 5), (0b0101, 21), (0b0001, 1, RUN | ACK), (0, 1, RUN | ACK), 0))
+    vectors.sequence(b, hands(b, 0, one, (0b0111, 5), (0b0111, 40), (0b0100, 1, RUN | ACK), (0, 1, RUN | ACK), 0))
+    vectors.sequence(b, hands(b, 0, two, (0b1101, 5), (0b1110, 40), (0b0001, 1, RUN | ACK), (0, 1, RUN | ACK), 0))
     vectors.sequence(b, hands(b, 0, one, (0b0111, 5), (0b1101, 40), (0b1101, 1, RUN | ACK), (0b1100, 1, RUN | ACK), (0, 1, RUN | ACK), 0, 0))
-    vectors.sequence(b, hands(b, 0, two, (0b1101, 5), (0b0111, 40), (0b0111, 1, RUN | ACK), (0, 1), (0, 1, RUN | ACK), (0, 1, RUN | ACK), 0))
-    vectors.sequence(b, hands(b, 0, one, (0b0001, 5), (0b0101, 26), (0, 1, RUN | ACK), 0))
-    vectors.sequence(b, hands(b, 0, one, (0b0111, 5), (0b0110, 21), (0b0110, 1, RUN | ACK), (0b0100, 1, RUN | ACK), (0, 1, RUN | ACK)))
+    # every set of bits, from well-formed states that are about to err
+    for code in (11, 12):
+        for first in (0, 21):
+            for second in (0, 21):
+                for entry in (0, 30):
+                    for bits in (0b0101, 0b1101, 0b0111, 0b1100, 0b0011, 0b1111, 0):
+                        vectors.sequence(b, hands(b, (bits, 1), (bits, 1, RUN | ACK), (0, 1, RUN | ACK), 0), state(code, 0, first, second, entry))
+    for code in (1, 3, 13):
+        for bits in (0b0101, 0b1101, 0b0111, 0b1111):
+            vectors.sequence(b, hands(b, (bits, 1), (0, 1, RUN | ACK), 0), state(code, 0, 21, 21))
+    # a fault of every set of bits, that goes or stays
+    for diagnosis in (1, 2, 3, 4, 5, 6, 7, 64, 65, 66, 67, 68, 71):
+        for bits in (0, 0b0001, 0b1000, 0b0011, 0b1111):
+            vectors.sequence(b, hands(b, (bits, 1, RUN), (bits, 1, RUN | ACK), (0, 1, RUN | ACK)), state(4, diagnosis))
     # the group held from outside, and acknowledged: from each state
     b = twohand(d1=50, t=500)
     for path in ([], [0], [one], [0, one], [0, two], [0, one, all4], [0, one, two], [0, (1, 1), (1, 51)]):
@@ -281,10 +301,23 @@ def random_hands(rng, block, n):
     return cycles
 
 
+def random_state(vectors, rng, block):
+    """A well-formed state of a TWOHAND, near its limits."""
+    d1, d2, t = struct.unpack('<HHH', block.parameters[2:8])
+    some = lambda top: rng.choice([0, 1, top, top + 1])
+    while True:
+        found = state(rng.choice([1, 3, 4, 5, 11, 11, 12, 12, 13]), rng.choice([0, 0, 1, 2, 4, 6, 64, 68]), some(d1), some(d2), some(t))
+        if vectors.well_formed(block, found):
+            return found
+
+
 def random_sequences(vectors, rng):
     for _ in range(130):
         block = random_twohand(rng)
         vectors.sequence(block, random_hands(rng, block, rng.randint(8, 32)))
+    for _ in range(70):
+        block = random_twohand(rng)
+        vectors.sequence(block, random_hands(rng, block, rng.randint(2, 5)), random_state(vectors, rng, block))
     for _ in range(110):
         kind = rng.choice([ADD, SUB, MUL, DIV])
         a, b, out = (rng.randrange(4) for _ in range(3))
@@ -295,10 +328,6 @@ def random_sequences(vectors, rng):
         block = decouple([p for p in range(8) if rng.random() < 0.8])
         vectors.sequence(block, [(random_group(rng), rng.randint(1, 1000), [rng.randrange(2) if p in block.linked else 0 for p in range(8)])
                                  for _ in range(rng.randint(3, 9))])
-
-
-def state(code, diagnosis=0, first=0, second=0, entry=0, output=0, spare=0, spare2=0):
-    return struct.pack('<BBHHHHHI', code, spare, diagnosis, first, second, entry, spare2, output % 2**32)
 
 
 def damaged_states(vectors, rng):

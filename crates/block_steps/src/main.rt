@@ -1,8 +1,9 @@
 // Runs single blocks through sequences of cycles from standard input and prints each state that they leave, so that a second source can be compared.
-// A sequence starts with 14 bytes: the kind, the 12 parameter bytes, and how many cycles follow. A cycle is the phase (0 STOP, 1 RUN, 2 ERROR, 3 RESET),
-// ErrAck (0 or 1), the elapsed time (2) and a word (4) for each input port of the kind, all little endian. The first cycle starts from the fresh state. Its
-// line has the state's 16 bytes, the word of each output port, and the finding of a block 0 of group 0 that enters ERROR, in hexadecimal, byte by byte.
-// Where 128 is added to the kind, the 14 bytes are followed by states of 16 bytes; the line of each is `formed` or `refused`.
+// A sequence starts with 14 bytes: the kind, the 12 parameter bytes, and how many cycles follow; then 16 bytes, the state before the first cycle, of which
+// zeros stand for the fresh state. A cycle is the phase (0 STOP, 1 RUN, 2 ERROR, 3 RESET), ErrAck (0 or 1), the elapsed time (2) and a word (4) for each
+// input port of the kind, all little endian. Its line has the state's 16 bytes, the word of each output port, and the finding of a block 0 of group 0 that
+// enters ERROR, in hexadecimal, byte by byte.
+// Where 128 is added to the kind, the 14 bytes are followed by states of 16 bytes alone; the line of each is `formed` or `refused`.
 // A sequence that is broken off ends the run.
 ghost use mathlib.Core.Path.{_≡_};
 ghost use Prim.Native.Nat.{ℕ, _*_, _≤_};
@@ -152,9 +153,21 @@ fn filled(bytes: &mut [u8], size: usize) -> bool {
     io::read_full(STDIN_FILENO, &mut bytes[0..size]) == size
 }
 
+// The state before the first cycle.
+fn start(given: &[u8; 16]) -> [u8; 16] {
+    if given[0] == 0 {
+        return block::pack(block::fresh());
+    }
+    block::pack(block::load(given))
+}
+
 // The cycles of one sequence; whether all were there.
 fn cycles(kind: u8, p: &[u8], n: u8) -> bool {
-    let mut state = block::pack(block::fresh());
+    let mut given = [0u8; 16];
+    if !filled(&mut given, 16) {
+        return false;
+    }
+    let mut state = start(&given);
     let mut bytes = [0u8; 36];
     let size = 4 + 4 * ((kind::ports_in(kind) % 9) as usize);
     let mut i = 0;

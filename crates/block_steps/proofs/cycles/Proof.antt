@@ -1,4 +1,4 @@
--- `block_steps::cycles` is safe and ends: the two buffers keep their lengths, and the measure is the number of cycles that are left.
+-- `block_steps::cycles` is safe and ends: the buffer keeps its length, and the measure is the number of cycles that are left.
 use mathlib.Core.Path.{_≡_}
 use Prim.Native.Nat.{_-_, _≤_}
 use lib.ListN.{length}
@@ -18,7 +18,9 @@ cycles-spec =
     (tie.spec
     Inv-loop
     μ-loop
+    (λ c. search needs)
     (λ c κs. search needs)
+    (λ c. search needs)
     (λ c κs. search needs)
     (λ c κs. search needs)
     (λ c. search needs)
