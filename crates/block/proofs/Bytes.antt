@@ -1,16 +1,16 @@
 -- A state and its 16 bytes: a state whose fields fit comes back from its bytes, and well-formed bytes from their state.
 -- Assumes nothing.
 use mathlib.Core.Path.{_≡_, refl, sym, ap, _∙_}
-use mathlib.Core.Bool.{Bool, true, false, _&&_}
+use mathlib.Core.Bool.{true, _&&_}
 use mathlib.Core.List.{List, [], _∷_, _++_}
 use Prim.Native.Nat.{ℕ, zero, suc, _+_, _<_}
 use native.Mathlib.Nat.{add-zero}
 use native.Mathlib.Omega.{arith}
 use borrow.Author.Tests.{eqb-true}
 use lib.Dec.{eqb}
-use lib.ListN.{length, drop, getD}
+use lib.ListN.{length, drop}
 use lib.Seq.{drop-cons, drop-length}
-use Rattle.wire.specs.Words.{byteAt, word2, word4, bytes2, bytes4}
+use Rattle.wire.specs.Words.{byteAt, word2, bytes2}
 use Rattle.wire.proofs.Endian.{bytes-word2, bytes-word4, word-bytes2, word-bytes4}
 use Rattle.wire.proofs.Places.{both-left}
 use Rattle.block.proofs.Bits.{parts3}
@@ -68,12 +68,13 @@ module _ (s : List ℕ) (l : length s ≡ 16) (b : (i : ℕ) → byteAt s i < 25
   pub encode-decode : spareOk s ≡ true → encode (decode s) ≡ s
   unfolding decode encode
   encode-decode h =
+      let last = word-bytes4 (byteAt s 12) (byteAt s 13) (byteAt s 14) (byteAt s 15) (b 12) (b 13) (b 14) (b 15) in
       let zeros = parts3 (eqb (byteAt s 1) 0) (eqb (byteAt s 10) 0) (eqb (byteAt s 11) 0) h in
       let one = eqb-true (byteAt s 1) 0 (zeros .0) in
       let ten = eqb-true (byteAt s 10) 0 (zeros .1) in
       let eleven = eqb-true (byteAt s 11) 0 (zeros .2) in
       (λ i.
-      (byteAt s 0 ∷ sym one i ∷ pair 2 i ++ pair 4 i ++ pair 6 i ++ pair 8 i ++ (sym ten i ∷ sym eleven i ∷ word-bytes4 (byteAt s 12) (byteAt s 13) (byteAt s 14) (byteAt s 15) (b 12) (b 13) (b 14) (b 15) i)))
+      (byteAt s 0 ∷ sym one i ∷ pair 2 i ++ pair 4 i ++ pair 6 i ++ pair 8 i ++ (sym ten i ∷ sym eleven i ∷ last i)))
       ∙ sym (listed-drop s 16 0 (sym l))
 
 -- well-formed bytes come back from the state that they hold

@@ -37,7 +37,8 @@ module _ (k : ℕ) (P : List ℕ) (phase : ℕ) (ack : Bool) (ms : ℕ) (x y : �
   reads-not h = rw n (pick-unread (eqb phase 1) (eqb (old .code) 4) ack _ _ _ _ (rw n at h))
 
 -- where a step does not read its inputs, they do not matter
-pub blind : (k : ℕ) (P : List ℕ) (phase : ℕ) (ack : Bool) (ms : ℕ) (x y x' y' : ℕ) (old : BlockState) → readsInputs phase (old .code) ack ≡ false → stepOf k P phase ack ms x y old ≡ stepOf k P phase ack ms x' y' old
+pub blind : (k : ℕ) (P : List ℕ) (phase : ℕ) (ack : Bool) (ms : ℕ) (x y x' y' : ℕ) (old : BlockState) → readsInputs phase (old .code) ack ≡ false →
+    stepOf k P phase ack ms x y old ≡ stepOf k P phase ack ms x' y' old
 unfolding stepOf
 blind k P phase ack ms x y x' y' old h = go (eqb phase 0) refl
   where

@@ -16,4 +16,12 @@ load-spec =
     (λ c κs. search needs)
     (λ c κs. search needs)
     (λ c.
-    λ i. record { code = c .before .before .before .before .before .byte .ensures i; diagnosis = c .before .before .before .before .read16 .ensures i; first = c .before .before .before .read162 .ensures i; second = c .before .before .read163 .ensures i; entry = c .before .read164 .ensures i; output = c .read32 .ensures i }))
+    let a = c .before .before .before in
+    λ i. record {
+      code = a .before .before .byte .ensures i;
+      diagnosis = a .before .read16 .ensures i;
+      first = a .read162 .ensures i;
+      second = c .before .before .read163 .ensures i;
+      entry = c .before .read164 .ensures i;
+      output = c .read32 .ensures i;
+    }))

@@ -1,5 +1,5 @@
 -- `block_steps::first_read` meets its contract: the tests of the kind pick the case.
-use mathlib.Core.Path.{ap, _∙_}
+use mathlib.Core.Path.{_∙_}
 use borrow.Author.Tests.{eq-eqb, ne-eqb}
 use Rattle.block.specs.Inputs.{firstRead}
 use borrow.Author.Needs.{needs}

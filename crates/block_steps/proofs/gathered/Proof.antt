@@ -1,7 +1,5 @@
 -- `block_steps::gathered` meets its contract: the bits of the ports from p on have been gathered.
-use mathlib.Core.Path.{refl}
 use Prim.Native.Nat.{ℕ, _*_}
-use native.Mathlib.Omega.{arith}
 use borrow.Author.Needs.{needs}
 use Rattle.wire.specs.Words.{le32}
 use Rattle.block.proofs.Gather.{Gathered, gather-start, gather-turn, gather-end}

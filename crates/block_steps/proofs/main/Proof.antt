@@ -1,5 +1,4 @@
 -- `block_steps::main` is safe and ends: the measure is the number of turns that are left, and nothing has to hold from turn to turn.
-use native.Mathlib.Omega.{arith}
 use borrow.Author.Needs.{needs}
 use Rattle.block_steps.proofs.main.Statement.{statement}
 use Rattle.block_steps.proofs.main.Tie as tie
