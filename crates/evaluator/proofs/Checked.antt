@@ -1,0 +1,199 @@
+-- A checked call: what follows from an accepted file, its layout and buffers of their sizes for each part of a cycle. Assumes nothing.
+use mathlib.Core.Path.{_≡_, refl, sym, ap, ap₂, _∙_, subst}
+use mathlib.Core.Bool.{Bool, true, false}
+use mathlib.Core.Logic.{_≢_, ⊎-elim}
+use mathlib.Core.List.{List, [], _∷_, _++_}
+use Prim.Native.Nat.{ℕ, _+_, _-_, _*_, _≤_, _<_}
+use native.Mathlib.Omega.{arith}
+use lib.ListN.{length, take, drop, replicate, length-append, length-drop}
+use Rattle.wire.specs.Words.{byteAt, bytes4}
+use Rattle.wire.specs.Records.{gather}
+use Rattle.wire.proofs.Records.{lt-or-gt, slot-gather, gather-same}
+use Rattle.casefile.specs.declared.Layout.{Layout}
+use Rattle.casefile.specs.declared.Verdict.the-variants.{Accepted}
+use Rattle.casefile.specs.Layout.{bodyG, bodyB, bodyO, bodyStart, groupCount, blockCount, outputCount, groupOf, orderOf, outputBlock, outputPort, layoutOf}
+use Rattle.casefile.specs.Refusal.{verdict}
+use Rattle.casefile.proofs.Accepted.{Good, accepted, from-output, block-at-lt, block-at-is}
+use Rattle.evaluator.specs.Groups.{cell, newGroup, phase}
+use Rattle.evaluator.specs.Packed.{hits, packed}
+use Rattle.evaluator.specs.Cycle.{portShows, newBlock, newState, outputWord, newOutputs, newFindings, findingCount}
+use Rattle.evaluator.specs.Answer.{stateLength, outputsLength, findingsLength}
+use Rattle.evaluator.specs.Fits.{Placed, Grouped, Decided, Ordered, Ranked, Running, Ready, Admitted, errorList, outputShown, ranWith, entersWith, slotWith, noteIn, isNoted, Noted}
+use Rattle.evaluator.proofs.Deciding.{row-length}
+use Rattle.evaluator.proofs.Cycles.{block-length, decidedState, state-new, noted, findings-new, count-new, findings-none, count-none}
+
+-- ---- the layout's numbers
+
+module _ (F : List ℕ) (l : Layout) (e : l ≡ layoutOf F) where
+  pub groups-is : l .groups ≡ groupCount F
+  unfolding layoutOf
+  groups-is = λ i. e i .groups
+
+  pub blocks-is : l .blocks ≡ blockCount F
+  unfolding layoutOf
+  blocks-is = λ i. e i .blocks
+
+  pub outputs-is : l .outputs ≡ outputCount F
+  unfolding layoutOf
+  outputs-is = λ i. e i .outputs
+
+  pub group-at : l .group ≡ bodyStart F bodyG
+  unfolding layoutOf
+  group-at = λ i. e i .group
+
+  pub block-at : l .block ≡ bodyStart F bodyB
+  unfolding layoutOf
+  block-at = λ i. e i .block
+
+  pub output-at : l .output ≡ bodyStart F bodyO
+  unfolding layoutOf
+  output-at = λ i. e i .output
+
+  module _ (g : Good F) where
+    pub placed : Placed F (l .block) (l .groups)
+    placed = record { begins = block-at; heads = groups-is; few = rw groups-is (g .groups .few) }
+
+    pub grouped : Grouped F (l .blocks)
+    grouped = record {
+      count = blocks-is;
+      few = rw blocks-is (g .blocks .few);
+      groups = λ b q. omega (arith, g .block b (rw blocks-is at q) .group, g .groups .few);
+    }
+
+    orders-apart : (a b : ℕ) → a < blockCount F → b < blockCount F → a ≢ b → orderOf F a ≢ orderOf F b
+    orders-apart a b p q n x = ⊎-elim (λ k. g .orderOther a b k q x) (λ k. g .orderOther b a k p (sym x)) (lt-or-gt a b n)
+
+    pub ordered : Ordered F (l .block) (l .blocks)
+    ordered = record {
+      begins = block-at;
+      few = rw blocks-is (g .blocks .few);
+      below = λ b q. rw blocks-is (g .orderBelow b (rw blocks-is at q));
+      apart = λ a b p q. orders-apart a b (rw blocks-is at p) (rw blocks-is at q);
+      lands = λ e q. (rw blocks-is (block-at-lt g e (rw blocks-is at q)), block-at-is g e (rw blocks-is at q));
+    }
+
+-- ---- the parts of a cycle
+
+module _ (F R : List ℕ) (l : Layout) (K E S D : List ℕ) (r : Ready F l K E S D) where
+  pub good : Good F
+  good = accepted F (r .accepted)
+
+  heads : l .groups ≡ groupCount F
+  heads = groups-is F l (r .layout)
+
+  count : l .blocks ≡ blockCount F
+  count = blocks-is F l (r .layout)
+
+  pub few-heads : l .groups ≤ 8
+  few-heads = rw heads (good .groups .few)
+
+  pub heads-fit : l .groups ≤ length S
+  unfolding stateLength
+  heads-fit = omega (arith, r .size, heads)
+
+  -- when the groups have decided
+  module _ (H S1 : List ℕ) (s : S1 ≡ gather (l .groups) (λ g. newGroup F R S g ∷ []) ++ drop (l .groups) S) (d : Decided F R S (l .groups) H) where
+    is-decided : S1 ≡ decidedState F R S
+    is-decided = s ∙ ap (λ (k : ℕ). gather k (λ g. newGroup F R S g ∷ []) ++ drop k S) heads
+
+    in-phases : Decided F R S (groupCount F) H
+    in-phases = subst (λ (k : ℕ). Decided F R S k H) heads d
+
+    decided-long : length S1 ≡ length S
+    decided-long =
+        ap length s ∙ length-append (gather (l .groups) (λ g. newGroup F R S g ∷ [])) (drop (l .groups) S)
+        ∙ omega (arith, row-length (l .groups) (newGroup F R S), length-drop (l .groups) S, heads-fit)
+
+    pub running : (D1 : List ℕ) → D1 ≡ replicate (length D) 0 → Running F K S1 D1 (l .block) (l .groups) (l .blocks)
+    unfolding stateLength findingsLength
+    running D1 z = record {
+      placed = placed F l (r .layout) good;
+      count = count;
+      few = rw count (good .blocks .few);
+      below = o .below;
+      apart = o .apart;
+      closed = λ b p a q k e. rw count (from-output good b p a q (rw count at k) e .exists);
+      ranked = λ e k. rw count (r .ranked .each e (rw count at k));
+      state = decided-long ∙ r .size ∙ sym (ap₂ (λ (x y : ℕ). x + 16 * y) heads count);
+      clean = z ∙ ap (λ (k : ℕ). replicate k 0) (r .room ∙ ap (λ (k : ℕ). 16 * k) (sym count));
+    }
+      where
+        o : Ordered F (l .block) (l .blocks)
+        o = ordered F l (r .layout) good
+
+    -- when the blocks have run
+    pub ran-state : (S2 : List ℕ) → S2 ≡ take (l .groups) S1 ++ gather (l .blocks) (ranWith F R H S1) → S2 ≡ newState F R S
+    ran-state S2 e =
+        e ∙ (λ i. take (heads i) (is-decided i) ++ gather (count i) (ranWith F R H (is-decided i)))
+        ∙ state-new F R S H good (r .size) (r .formed) in-phases
+
+    module _ (D2 : List ℕ) (f : D2 ≡ gather (l .blocks) (slotWith F R H S1)) where
+      by-block : D2 ≡ gather (blockCount F) (slotWith F R H (decidedState F R S))
+      by-block = f ∙ (λ i. gather (count i) (slotWith F R H (is-decided i)))
+
+      pub packable : Noted D2 (l .blocks)
+      packable = subst (λ (t : List ℕ). Noted t (l .blocks)) (sym by-block) (rw count (noted F R S H good (r .size) (r .formed) in-phases))
+
+      pub all-findings : (D3 : List ℕ) → D3 ≡ packed (16 * l .blocks) (l .blocks) (isNoted D2) (noteIn D2) → D3 ≡ newFindings F R S
+      all-findings D3 e =
+          e ∙ (λ i. packed (16 * count i) (count i) (isNoted (by-block i)) (noteIn (by-block i))) ∙ findings-new F R S H good (r .size) (r .formed) in-phases
+
+      pub all-count : (k : ℕ) → k ≡ hits (l .blocks) (isNoted D2) → k ≡ findingCount F R S
+      all-count k e = e ∙ (λ i. hits (count i) (isNoted (by-block i))) ∙ count-new F R S H good (r .size) (r .formed) in-phases
+
+      none-at : ((b : ℕ) → b < l .blocks → entersWith F R H S1 b ≡ false) → (b : ℕ) → b < blockCount F → entersWith F R H (decidedState F R S) b ≡ false
+      none-at n b k = ap (λ (t : List ℕ). entersWith F R H t b) (sym is-decided) ∙ n b (rw count k)
+
+      pub no-findings : ((b : ℕ) → b < l .blocks → entersWith F R H S1 b ≡ false) → D2 ≡ newFindings F R S
+      no-findings n = by-block ∙ findings-none F R S H good (r .size) (r .formed) in-phases (none-at n)
+
+      pub no-count : ((b : ℕ) → b < l .blocks → entersWith F R H S1 b ≡ false) → 0 ≡ findingCount F R S
+      no-count n = count-none F R S H good (r .size) (r .formed) in-phases (none-at n)
+
+-- ---- a whole call
+
+module _ (F R : List ℕ) (l : Layout) (S O D : List ℕ) (m : Admitted F l S O D) where
+  file-good : Good F
+  file-good = accepted F (m .accepted)
+
+  pub in-place : Placed F (l .block) (l .groups)
+  in-place = placed F l (m .layout) file-good
+
+  pub in-groups : Grouped F (l .blocks)
+  in-groups = grouped F l (m .layout) file-good
+
+  pub in-order : Ordered F (l .block) (l .blocks)
+  in-order = ordered F l (m .layout) file-good
+
+  pub ready : (K E : List ℕ) → Ranked F (l .blocks) K → E ≡ errorList F S → Ready F l K E S D
+  ready K E k e = record {
+    accepted = m .accepted;
+    layout = m .layout;
+    ranked = subst (λ (n : ℕ). Ranked F n K) (blocks-is F l (m .layout)) k;
+    errors = e;
+    size = m .state;
+    formed = m .formed;
+    room = m .findings;
+  }
+
+  pub outputs-fit : (l .output ≡ bodyStart F bodyO) × (l .outputs ≤ 64)
+  outputs-fit = (output-at F l (m .layout), rw (outputs-is F l (m .layout)) (file-good .outputs .few))
+
+  pub outputs-long : length O ≡ 4 * l .outputs
+  unfolding outputsLength
+  outputs-long = m .outputs ∙ ap (λ (k : ℕ). 4 * k) (sym (outputs-is F l (m .layout)))
+
+  -- a block's bytes in the new state
+  new-cell : (b : ℕ) → b < blockCount F → cell F (newState F R S) b ≡ newBlock F R S b
+  unfolding cell newState
+  new-cell b q =
+      slot-gather (groupCount F) 16 (blockCount F) (gather (groupCount F) (λ g. newGroup F R S g ∷ [])) (newBlock F R S) (row-length (groupCount F) (newGroup F R S))
+      (λ k p. block-length F R S file-good k p) b q
+
+  -- the words that the new state shows are those of the cycle
+  pub shown-new : (T P : List ℕ) → T ≡ newState F R S → P ≡ gather (l .outputs) (λ o. bytes4 (outputShown F T o)) → P ≡ newOutputs F R S
+  unfolding newOutputs outputWord outputShown
+  shown-new T P t p =
+      p ∙ (λ i. gather (outputs-is F l (m .layout) i) (λ o. bytes4 (outputShown F (t i) o)))
+      ∙ gather-same (outputCount F) (λ o. bytes4 (outputShown F (newState F R S) o)) (λ o. bytes4 (outputWord F R S o))
+      (λ o q. ap (λ (s : List ℕ). bytes4 (portShows F (outputBlock F o) (outputPort F o) s)) (new-cell (outputBlock F o) (file-good .output o q .block)))

@@ -1,0 +1,15 @@
+pub mod Agree
+pub mod Stage
+pub mod Buffers
+pub mod Packing
+pub mod Reading
+pub mod Turning
+pub mod Running
+pub mod Deciding
+pub mod Ranking
+pub mod Cycles
+pub mod Checked
+pub mod Calls
+pub mod Words
+pub mod Checking
+pub mod FreshFormed

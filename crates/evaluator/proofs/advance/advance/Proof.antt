@@ -1,0 +1,82 @@
+-- `evaluator::advance::advance` meets its contract: the parts' contracts come to the definitions of a cycle (`Checked`).
+use mathlib.Core.Path.{_≡_, refl, sym, ap, _∙_}
+use borrow.Author.Needs.{needs}
+use borrow.Author.Tests.{not-true}
+use denote.Ref.{now}
+use Rattle.evaluator.specs.Fits.{Running, Noted}
+use Rattle.evaluator.proofs.Checked.{group-at, few-heads, heads-fit, running, ran-state, packable, all-findings, all-count, no-findings, no-count}
+use Rattle.evaluator.proofs.advance.advance.Statement.{statement}
+use Rattle.evaluator.proofs.advance.advance.Tie as tie
+
+abbrev start-of : tie.After-decide → tie.Start
+start-of c = c .before .before .before .before .before .before .before .before .before .before .before .before
+
+abbrev decided-of : tie.After-run → tie.After-decide
+decided-of c = c .before .before .before .before .before .before
+
+run-requires : tie.Need-run-requires
+run-requires c κs =
+    let d = c .before .before .before .before .before in
+    let s = start-of d in
+    let a = s .args in
+    running (now (a .file)) (now (a .rec)) (a .l) (now (a .ranks)) (now (a .errors)) (now (a .state)) (now (a .findings)) (s .pre) _ _ (d .decide .ensures .0) (d .decide .ensures .1)
+    _ (d .before .before .before .before .clear .ensures)
+
+-- no block entered ERROR
+returns : tie.Need-returns
+returns c =
+    let r = c .before .before .before .before .before in
+    let d = decided-of r in
+    let s = start-of d in
+    let a = s .args in
+    let none = r .run .ensures .1 .1 (not-true (r .run .result) (c .if1 .taken)) in (
+      ran-state (now (a .file)) (now (a .rec)) (a .l) (now (a .ranks)) (now (a .errors)) (now (a .state)) (now (a .findings)) (s .pre) _ _ (d .decide .ensures .0) (d .decide .ensures .1) _ (r .run .ensures .0),
+      (
+        no-findings (now (a .file)) (now (a .rec)) (a .l) (now (a .ranks)) (now (a .errors)) (now (a .state)) (now (a .findings)) (s .pre) _ _ (d .decide .ensures .0) (d .decide .ensures .1) _ (r .run .ensures .1 .0) none,
+        no-count (now (a .file)) (now (a .rec)) (a .l) (now (a .ranks)) (now (a .errors)) (now (a .state)) (now (a .findings)) (s .pre) _ _ (d .decide .ensures .0) (d .decide .ensures .1) _ (r .run .ensures .1 .0) none,
+      ),
+    )
+
+pack-requires : tie.Need-pack-requires
+pack-requires c κs =
+    let r = c .before .before .before .before .before .before in
+    let d = decided-of r in
+    let s = start-of d in
+    let a = s .args in
+    packable (now (a .file)) (now (a .rec)) (a .l) (now (a .ranks)) (now (a .errors)) (now (a .state)) (now (a .findings)) (s .pre) _ _ (d .decide .ensures .0) (d .decide .ensures .1) _ (r .run .ensures .1 .0)
+
+-- some block may have
+returns-2 : tie.Need-returns-2
+returns-2 c =
+    let p = c .before .before in
+    let r = p .before .before .before .before .before .before .before in
+    let d = decided-of r in
+    let s = start-of d in
+    let a = s .args in (
+      ran-state (now (a .file)) (now (a .rec)) (a .l) (now (a .ranks)) (now (a .errors)) (now (a .state)) (now (a .findings)) (s .pre) _ _ (d .decide .ensures .0) (d .decide .ensures .1) _ (r .run .ensures .0),
+      (
+        all-findings (now (a .file)) (now (a .rec)) (a .l) (now (a .ranks)) (now (a .errors)) (now (a .state)) (now (a .findings)) (s .pre) _ _ (d .decide .ensures .0) (d .decide .ensures .1) _ (r .run .ensures .1 .0) _ (p .pack .ensures .0),
+        all-count (now (a .file)) (now (a .rec)) (a .l) (now (a .ranks)) (now (a .errors)) (now (a .state)) (now (a .findings)) (s .pre) _ _ (d .decide .ensures .0) (d .decide .ensures .1) _ (r .run .ensures .1 .0) _ (p .pack .ensures .1),
+      ),
+    )
+
+pub advance-spec : {M : Type 1} → statement M
+advance-spec =
+    tie.close
+    (tie.spec
+    (λ c κs. search needs)
+    (λ c κs.
+    let s = c .before .before .before .before .before .before .before .before .before .before .before in
+    let a = s .args in (
+      (group-at (now (a .file)) (a .l) (s .pre .layout), few-heads (now (a .file)) (now (a .rec)) (a .l) (now (a .ranks)) (now (a .errors)) (now (a .state)) (now (a .findings)) (s .pre)),
+      (heads-fit (now (a .file)) (now (a .rec)) (a .l) (now (a .ranks)) (now (a .errors)) (now (a .state)) (now (a .findings)) (s .pre), s .pre .errors),
+    ))
+    (λ c. search needs)
+    run-requires
+    (λ c. search needs)
+    (λ c. search needs)
+    returns
+    pack-requires
+    (λ c. search needs)
+    (λ c. search needs)
+    returns-2)

@@ -1,0 +1,92 @@
+-- `evaluator::outputs::write_outputs` meets its contract: after the turn of output o the first o + 1 words are written.
+use mathlib.Core.Path.{_≡_, refl, sym, ap, _∙_, subst}
+use mathlib.Core.List.{List}
+use Prim.Native.Nat.{ℕ, _+_, _-_, _*_, _≤_}
+use native.Mathlib.Omega.{arith}
+use borrow.Author.Needs.{needs}
+use lib.ListN.{length}
+use lib.Seq.{sets}
+use denote.Ref.{now}
+use Rattle.wire.specs.Words.{bytes4}
+use Rattle.wire.specs.Records.{slot}
+use Rattle.wire.proofs.Records.{gathered, gathered-none, gathered-length, gathered-more, gathered-all}
+use Rattle.casefile.specs.Layout.{outputRecord, outputBlockIn, outputPortIn}
+use Rattle.evaluator.specs.Groups.{cell}
+use Rattle.evaluator.specs.Cycle.{portShows}
+use Rattle.evaluator.specs.Fits.{outputShown}
+use Rattle.evaluator.proofs.outputs.write_outputs.Statement.{statement}
+use Rattle.evaluator.proofs.outputs.write_outputs.Tie as tie
+
+abbrev word : List ℕ → List ℕ → ℕ → List ℕ
+word F S o = bytes4 (outputShown F S o)
+
+abbrev Inv-loop : tie.InvT-loop
+Inv-loop file start h first m state outputs₀ o₀ outputs o = (o ≤ m) × (outputs ≡ gathered 4 (word file state) outputs₀ o)
+
+abbrev μ-loop : tie.MeasureT-loop
+μ-loop file start h first m state outputs₀ o₀ outputs o = m - o
+
+abbrev start-of : tie.At-loop Inv-loop μ-loop → tie.Start Inv-loop μ-loop
+start-of c = c .before .before .before .before
+
+long : (c : tie.At-loop Inv-loop μ-loop) → length (c .loop .outputs) ≡ length (now (start-of c .args .outputs))
+long c =
+    let s = start-of c in
+    let a = s .args in
+    ap length (c .loop .inv .1)
+    ∙ gathered-length 4 (word (now (a .file)) (now (a .state))) (now (a .outputs)) (c .loop .o) (λ j. refl) (omega (arith, s .pre .1 .1, c .loop .inv .0))
+
+-- the word of output o
+shown : (c : tie.After-port-shows Inv-loop μ-loop) →
+    let l = c .before .before .before .before .before in
+    let a = start-of l .args in
+    c .port-shows .result ≡ outputShown (now (a .file)) (now (a .state)) (l .loop .o)
+unfolding outputShown outputRecord
+shown c =
+    let r = c .before .before .before in
+    let l = r .before .before in
+    let s = start-of l in
+    let a = s .args in
+    let here = r .output-record .ensures ∙ ap (λ (k : ℕ). slot k 3 (l .loop .o) (now (a .file))) (s .pre .1 .0 .0) in
+    let block = c .before .before .output-block .ensures ∙ ap outputBlockIn here in
+    let port = c .before .output-port .ensures ∙ ap outputPortIn here in
+    c .port-shows .ensures ∙ (λ i. portShows (now (a .file)) (block i) (port i) (cell (now (a .file)) (now (a .state)) (block i)))
+
+loop-again : tie.Need-loop-again Inv-loop μ-loop
+loop-again c =
+    let w = c .before .before in
+    let p = w .before .before in
+    let l = p .before .before .before .before .before in
+    let s = start-of l in
+    let a = s .args in
+    let f = word (now (a .file)) (now (a .state)) in
+    let test = p .before .before .before .before .loop-test .taken in (
+      omega (arith, test),
+      w .write32 .ensures
+          ∙ (λ i. sets (l .loop .inv .1 i) (4 * l .loop .o) (bytes4 (shown p i)))
+          ∙ gathered-more 4 f (now (a .outputs)) (l .loop .o) (λ j. refl) (omega (arith, s .pre .1 .1, test)),
+    )
+
+pub write-outputs-spec : {M : Type 1} → statement M
+write-outputs-spec =
+    tie.close
+    (tie.spec
+    Inv-loop
+    μ-loop
+    (λ c. (search needs, gathered-none 4 _ _))
+    (λ c κs. search needs)
+    (λ c κs. search needs)
+    (λ c κs. search needs)
+    (λ c κs. search needs)
+    (λ c. search needs)
+    (λ c κs. search needs)
+    (λ c. search needs)
+    (λ c. search needs)
+    loop-again
+    (λ c. long (c .before))
+    (λ c.
+    let l = c .before in
+    let s = start-of l in
+    let a = s .args in
+    let end : l .loop .o ≡ a .m = omega (arith, l .loop .inv .0, c .loop-test .left) in
+    l .loop .inv .1 ∙ ap (gathered 4 (word (now (a .file)) (now (a .state))) (now (a .outputs))) end ∙ gathered-all 4 (a .m) (word (now (a .file)) (now (a .state))) (now (a .outputs)) (s .pre .1 .1)))

@@ -1,0 +1,50 @@
+-- `evaluator::turns::first_read` meets its contract: the tests of the kind say which case of `firstRead` holds.
+use mathlib.Core.Path.{sym, ap, ap₂, _∙_}
+use borrow.Author.Needs.{needs}
+use denote.Ref.{now}
+use Rattle.wire.proofs.Places.{is, is-not}
+use Rattle.block.specs.Inputs.{effectiveMask, firstRead, secondRead}
+use Rattle.evaluator.specs.Net.{reads}
+use Rattle.evaluator.specs.Groups.{cell}
+use Rattle.evaluator.specs.Cycle.{wires}
+use Rattle.evaluator.proofs.turns.first_read.Statement.{statement}
+use Rattle.evaluator.proofs.turns.first_read.Tie as tie
+
+-- DECOUPLE
+returns : tie.Need-returns
+unfolding firstRead
+returns c = rw (is (c .before .before .kind-of .ensures) (c .before .if1 .taken)) (c .port-bits .ensures)
+
+-- TWOHAND
+returns-2 : tie.Need-returns-2
+unfolding firstRead
+returns-2 c =
+    let d = c .before .before .before in
+    let k = d .before .before .kind-of .ensures in
+    rw (is-not k (d .before .if1 .left), is k (d .if2 .taken))
+    (c .effective .ensures ∙ ap₂ effectiveMask (c .before .before .parameters-of .ensures) (c .before .port-bits2 .ensures))
+
+-- arithmetic
+returns-3 : tie.Need-returns-3
+unfolding firstRead
+returns-3 c =
+    let d = c .before .before in
+    let k = d .before .before .kind-of .ensures in
+    let a = d .before .before .before .before .before .before .before .args in
+    rw (is-not k (d .before .if1 .left), is-not k (d .if2 .left))
+    (c .port-word .ensures ∙ ap (reads (wires (now (a .file)) (now (a .rec))) (cell (now (a .file)) (now (a .state)))) (c .before .source-of .ensures))
+
+pub first-read-spec : {M : Type 1} → statement M
+first-read-spec =
+    tie.close
+    (tie.spec
+    (λ c κs. search needs)
+    (λ c κs. search needs)
+    returns
+    (λ c κs. search needs)
+    (λ c κs. search needs)
+    (λ c κs. search needs)
+    returns-2
+    (λ c κs. search needs)
+    (λ c κs. search needs)
+    returns-3)

@@ -1,0 +1,7 @@
+pub mod Net
+pub mod Groups
+pub mod Packed
+pub mod Cycle
+pub mod Answer
+pub mod Fresh
+pub mod Fits

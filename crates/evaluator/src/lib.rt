@@ -1,0 +1,117 @@
+// The evaluator: one cycle of a project over a case file, a record and lent buffers, the sizes of those buffers, and the fresh state. Every call checks all that
+// it is given, gives each input an answer, and where it turns a call down, writes nothing. `specs/Answer.antt` says what a call answers and leaves, `specs/Cycle.antt`
+// what a cycle is.
+ghost use mathlib.Core.Path.{_≡_};
+ghost use Prim.Native.Nat.{_*_};
+ghost use lib.ListN.{length};
+ghost use Rattle.wire.specs.Records.{gather};
+ghost use Rattle.block.specs.State.{freshState, encode};
+ghost use Rattle.evaluator.specs.Answer.{lends, cycleOf};
+ghost use Rattle.evaluator.specs.Fresh.{sizesOf, freshNumber, freshLeft};
+
+mod advance;
+mod checks;
+mod findings;
+mod groups;
+mod outputs;
+mod ranks;
+mod turns;
+
+// What a cycle call answers: the count of findings, or the number with which it was turned down.
+pub enum Answer {
+    Findings(u32),
+    Refused(u8),
+}
+
+// One cycle: the file's project from the state, with the record. Accepted, the state, the outputs and the findings are the cycle's; turned down, they are as they were.
+pub fn cycle(
+    file: &[u8],
+    rec: &[u8],
+    state: &mut [u8],
+    outputs: &mut [u8],
+    findings: &mut [u8],
+) -> Answer
+    ensures answered { λ r. ⌜ r ≡ cycleOf (now (file .entry)) (now (rec .entry)) (lends (now (state .entry)) (now (outputs .entry)) (now (findings .entry))) .answer ⌝ }
+    ensures left { λ _. ⌜ now (state .exit) ≡ cycleOf (now (file .entry)) (now (rec .entry)) (lends (now (state .entry)) (now (outputs .entry)) (now (findings .entry))) .lent .state ⌝ }
+    ensures shown { λ _. ⌜ now (outputs .exit) ≡ cycleOf (now (file .entry)) (now (rec .entry)) (lends (now (state .entry)) (now (outputs .entry)) (now (findings .entry))) .lent .outputs ⌝ }
+    ensures told { λ _. ⌜ now (findings .exit) ≡ cycleOf (now (file .entry)) (now (rec .entry)) (lends (now (state .entry)) (now (outputs .entry)) (now (findings .entry))) .lent .findings ⌝ }
+{
+    let number = casefile::number_of(casefile::check(file));
+    if number != 0 {
+        return Answer::Refused(number);
+    }
+    let l = casefile::layout_of(file);
+    if !checks::sizes_ok(file, l, state.len(), outputs.len(), findings.len()) {
+        return Answer::Refused(10);
+    }
+    if !checks::state_ok(file, l, state) {
+        return Answer::Refused(11);
+    }
+    if !checks::record_ok(file, l, rec) {
+        return Answer::Refused(12);
+    }
+    let count = advance::whole_cycle(file, l, rec, state, outputs, findings);
+    Answer::Findings(count)
+}
+
+// What the buffers' sizes are, or the number with which the file was turned down.
+pub enum Sizes {
+    Bytes {
+        state: u32,
+        outputs: u32,
+        findings: u32,
+    },
+    Refused(u8),
+}
+
+// The sizes of an accepted project's buffers.
+pub fn sizes_of(file: &[u8]) -> Sizes
+    ensures { λ r. ⌜ r ≡ sizesOf (now (file .entry)) ⌝ }
+{
+    let number = casefile::number_of(casefile::check(file));
+    if number != 0 {
+        return Sizes::Refused(number);
+    }
+    let l = casefile::layout_of(file);
+    let groups = l.groups;
+    let blocks = l.blocks;
+    let outputs = l.outputs;
+    Sizes::Bytes {
+        state: (groups + 16 * blocks) as u32,
+        outputs: (4 * outputs) as u32,
+        findings: (16 * blocks) as u32,
+    }
+}
+
+// The fresh bytes of n blocks.
+fn fresh_blocks(cells: &mut [u8], n: usize)
+    requires { ⌜ length (now cells) ≡ 16 * n ⌝ }
+    ensures { λ _. ⌜ now (cells .exit) ≡ gather n (λ b. encode freshState) ⌝ }
+{
+    let mut b = 0;
+    while b < n {
+        let bytes = block::pack(block::fresh());
+        wire::put(cells, 16 * b, &bytes);
+        b += 1;
+    }
+}
+
+// The fresh state of an accepted project, into a buffer of the exact size. Answers 0, or the number with which the call was turned down.
+pub fn fresh(file: &[u8], state: &mut [u8]) -> u8
+    ensures answered { λ r. ⌜ r ≡ freshNumber (now (file .entry)) (now (state .entry)) ⌝ }
+    ensures left { λ _. ⌜ now (state .exit) ≡ freshLeft (now (file .entry)) (now (state .entry)) ⌝ }
+{
+    let number = casefile::number_of(casefile::check(file));
+    if number != 0 {
+        return number;
+    }
+    let l = casefile::layout_of(file);
+    let groups = l.groups;
+    let blocks = l.blocks;
+    if state.len() != groups + 16 * blocks {
+        return 10;
+    }
+    wire::clear(state);
+    fresh_blocks(&mut state[groups..], blocks);
+    0
+}
