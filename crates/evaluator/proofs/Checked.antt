@@ -1,26 +1,45 @@
 -- A checked call: what follows from an accepted file, its layout and buffers of their sizes for each part of a cycle. Assumes nothing.
 use mathlib.Core.Path.{_≡_, refl, sym, ap, ap₂, _∙_, subst}
-use mathlib.Core.Bool.{Bool, true, false}
+use mathlib.Core.Bool.{Bool, true, false, cond, not, _&&_}
 use mathlib.Core.Logic.{_≢_, ⊎-elim}
 use mathlib.Core.List.{List, [], _∷_, _++_}
 use Prim.Native.Nat.{ℕ, _+_, _-_, _*_, _≤_, _<_}
 use native.Mathlib.Omega.{arith}
-use lib.ListN.{length, take, drop, replicate, length-append, length-drop}
+use lib.ListN.{length, take, drop, replicate, length-append, length-drop, List·getD-append}
 use Rattle.wire.specs.Words.{byteAt, bytes4}
 use Rattle.wire.specs.Records.{gather}
-use Rattle.wire.proofs.Records.{lt-or-gt, slot-gather, gather-same}
+use Rattle.wire.specs.Places.{all}
+use Rattle.wire.proofs.Places.{all-each, all-true, both-left}
+use Rattle.wire.proofs.Records.{lt-or-gt, slot-gather, gather-same, length-gather}
 use Rattle.casefile.specs.declared.Layout.{Layout}
 use Rattle.casefile.specs.declared.Verdict.the-variants.{Accepted}
-use Rattle.casefile.specs.Layout.{bodyG, bodyB, bodyO, bodyStart, groupCount, blockCount, outputCount, groupOf, orderOf, outputBlock, outputPort, layoutOf}
+use Rattle.casefile.specs.Layout.{bodyG, bodyB, bodyO, bodyStart, groupCount, blockCount, outputCount, kindOf, groupOf, orderOf, parametersOf, outputBlock, outputPort, layoutOf}
 use Rattle.casefile.specs.Refusal.{verdict}
 use Rattle.casefile.proofs.Accepted.{Good, accepted, from-output, block-at-lt, block-at-is}
-use Rattle.evaluator.specs.Groups.{cell, newGroup, phase}
+use Rattle.evaluator.specs.Groups.{controlByte, isErrAck, cell, isHeld, isAcknowledged, hasError, isPending, groupNext, newGroup, phase}
 use Rattle.evaluator.specs.Packed.{hits, packed}
 use Rattle.evaluator.specs.Cycle.{portShows, newBlock, newState, outputWord, newOutputs, newFindings, findingCount}
-use Rattle.evaluator.specs.Answer.{stateLength, outputsLength, findingsLength}
+use Rattle.evaluator.specs.Answer.{stateLength, outputsLength, findingsLength, groupFormed, groupOk, blockOk, stateOk}
+use Rattle.block.specs.State.{wellFormed}
 use Rattle.evaluator.specs.Fits.{Placed, Grouped, Decided, Ordered, Ranked, Running, Ready, Admitted, errorList, outputShown, ranWith, entersWith, slotWith, noteIn, isNoted, Noted}
-use Rattle.evaluator.proofs.Deciding.{row-length}
-use Rattle.evaluator.proofs.Cycles.{block-length, decidedState, state-new, noted, findings-new, count-new, findings-none, count-none}
+use Rattle.evaluator.proofs.Deciding.{row-length, row-at}
+use Rattle.evaluator.proofs.Cycles.{block-length, block-formed, decidedState, state-new, noted, findings-new, count-new, findings-none, count-none}
+
+-- ---- a group's byte stays well formed
+
+next-formed : (p a b c : Bool) (old : ℕ) → groupFormed old ≡ true → groupFormed (cond p 1 (cond a 3 (cond (b && c) 0 old))) ≡ true
+next-formed true a b c old h = refl
+next-formed false true b c old h = refl
+next-formed false false true true old h = refl
+next-formed false false true false old h = h
+next-formed false false false c old h = h
+
+group-formed : (F R S : List ℕ) (g : ℕ) → groupFormed (byteAt S g) ≡ true → groupFormed (newGroup F R S g) ≡ true
+unfolding newGroup groupNext
+group-formed F R S g h =
+    let v = controlByte R g in
+    let old = byteAt S g in
+    next-formed (isPending v (hasError F S g)) (isHeld old && isErrAck v) (isHeld old && isAcknowledged old) (not (isErrAck v)) old h
 
 -- ---- the layout's numbers
 
@@ -150,6 +169,42 @@ module _ (F R : List ℕ) (l : Layout) (K E S D : List ℕ) (r : Ready F l K E S
       pub no-count : ((b : ℕ) → b < l .blocks → entersWith F R H S1 b ≡ false) → 0 ≡ findingCount F R S
       no-count n = count-none F R S H good (r .size) (r .formed) in-phases (none-at n)
 
+-- ---- the new state
+
+module _ (F R S : List ℕ) (g : Good F) where
+  heads-long : length (gather (groupCount F) (λ g. newGroup F R S g ∷ [])) ≡ groupCount F
+  heads-long = row-length (groupCount F) (newGroup F R S)
+
+  -- a block's bytes in it
+  pub new-cell : (b : ℕ) → b < blockCount F → cell F (newState F R S) b ≡ newBlock F R S b
+  unfolding cell newState
+  new-cell b q =
+      slot-gather (groupCount F) 16 (blockCount F) (gather (groupCount F) (λ g. newGroup F R S g ∷ [])) (newBlock F R S) heads-long
+      (λ k p. block-length F R S g k p) b q
+
+  pub new-long : length (newState F R S) ≡ stateLength F
+  unfolding newState stateLength
+  new-long =
+      length-append (gather (groupCount F) (λ g. newGroup F R S g ∷ [])) (gather (blockCount F) (newBlock F R S))
+      ∙ ap₂ (λ (x y : ℕ). x + y) heads-long (length-gather 16 (blockCount F) (newBlock F R S) (λ k p. block-length F R S g k p))
+
+  -- a group's byte in it
+  new-head : (k : ℕ) → k < groupCount F → byteAt (newState F R S) k ≡ newGroup F R S k
+  unfolding newState
+  new-head k q =
+      List·getD-append (gather (groupCount F) (λ g. newGroup F R S g ∷ [])) (gather (blockCount F) (newBlock F R S)) 0 k (rw heads-long q)
+      ∙ row-at (groupCount F) (newGroup F R S) k q
+
+  -- 01, "What the reviewer must be able to rely on": it is well formed
+  pub new-formed : stateOk F S ≡ true → stateOk F (newState F R S) ≡ true
+  unfolding stateOk blockOk
+  new-formed h =
+      let heads = all-each (groupOk S) (groupCount F) (both-left (all (groupOk S) (groupCount F)) (all (blockOk F S) (blockCount F)) h) in
+      ap₂ (λ (x y : Bool). x && y)
+      (all-true (groupOk (newState F R S)) (groupCount F) (λ k q. ap groupFormed (new-head k q) ∙ group-formed F R S k (heads k q)))
+      (all-true (blockOk F (newState F R S)) (blockCount F)
+      (λ b q. ap (wellFormed (kindOf F b) (parametersOf F b)) (new-cell b q) ∙ block-formed F R S g h b q))
+
 -- ---- a whole call
 
 module _ (F R : List ℕ) (l : Layout) (S O D : List ℕ) (m : Admitted F l S O D) where
@@ -183,17 +238,10 @@ module _ (F R : List ℕ) (l : Layout) (S O D : List ℕ) (m : Admitted F l S O 
   unfolding outputsLength
   outputs-long = m .outputs ∙ ap (λ (k : ℕ). 4 * k) (sym (outputs-is F l (m .layout)))
 
-  -- a block's bytes in the new state
-  new-cell : (b : ℕ) → b < blockCount F → cell F (newState F R S) b ≡ newBlock F R S b
-  unfolding cell newState
-  new-cell b q =
-      slot-gather (groupCount F) 16 (blockCount F) (gather (groupCount F) (λ g. newGroup F R S g ∷ [])) (newBlock F R S) (row-length (groupCount F) (newGroup F R S))
-      (λ k p. block-length F R S file-good k p) b q
-
   -- the words that the new state shows are those of the cycle
   pub shown-new : (T P : List ℕ) → T ≡ newState F R S → P ≡ gather (l .outputs) (λ o. bytes4 (outputShown F T o)) → P ≡ newOutputs F R S
   unfolding newOutputs outputWord outputShown
   shown-new T P t p =
       p ∙ (λ i. gather (outputs-is F l (m .layout) i) (λ o. bytes4 (outputShown F (t i) o)))
       ∙ gather-same (outputCount F) (λ o. bytes4 (outputShown F (newState F R S) o)) (λ o. bytes4 (outputWord F R S o))
-      (λ o q. ap (λ (s : List ℕ). bytes4 (portShows F (outputBlock F o) (outputPort F o) s)) (new-cell (outputBlock F o) (file-good .output o q .block)))
+      (λ o q. ap (λ (s : List ℕ). bytes4 (portShows F (outputBlock F o) (outputPort F o) s)) (new-cell F R S file-good (outputBlock F o) (file-good .output o q .block)))

@@ -72,6 +72,16 @@ unfolding newBlock net blockStep
 block-length F R S g b l =
     ap length (fixed (net F R (phase F R S)) (orderOf F) (cell F S) (blockCount F) b (g .orderBelow b l)) ∙ encode-length _
 
+-- a block that was well formed is so after the cycle
+pub block-formed : (F R S : List ℕ) → Good F → answer.stateOk F S ≡ true → (b : ℕ) → b < blockCount F → wellFormed (kindOf F b) (parametersOf F b) (newBlock F R S b) ≡ true
+unfolding newBlock net blockStep answer.stateOk answer.blockOk
+block-formed F R S g formed b l =
+    keeps (λ b s. b < blockCount F → wellFormed (kindOf F b) (parametersOf F b) s ≡ true) (net F R (phase F R S)) (orderOf F) (cell F S)
+    (λ b s f h q. step-keeps (kindOf F b) (parametersOf F b) _ _ _ _ _ s (g .block b q .parameters) (h q))
+    (blockCount F) b
+    (λ q. all-each (answer.blockOk F S) (blockCount F) (both-right (all (answer.groupOk S) (groupCount F)) (all (answer.blockOk F S) (blockCount F)) formed) b q)
+    l
+
 -- the state whose group bytes are new
 abbrev pub decidedState : List ℕ → List ℕ → List ℕ → List ℕ
 decidedState F R S = gather (groupCount F) (λ g. newGroup F R S g ∷ []) ++ drop (groupCount F) S
@@ -129,16 +139,6 @@ module _ (F R S H : List ℕ) (g : Good F) (long : length S ≡ answer.stateLeng
 
   -- ---- the findings
 
-  -- a block that was well formed is so after the cycle
-  pub block-formed : (b : ℕ) → b < blockCount F → wellFormed (kindOf F b) (parametersOf F b) (newBlock F R S b) ≡ true
-  unfolding newBlock net blockStep answer.stateOk answer.blockOk
-  block-formed b l =
-      keeps (λ b s. b < blockCount F → wellFormed (kindOf F b) (parametersOf F b) s ≡ true) (net F R (phase F R S)) (orderOf F) (cell F S)
-      (λ b s f h q. step-keeps (kindOf F b) (parametersOf F b) _ _ _ _ _ s (g .block b q .parameters) (h q))
-      (blockCount F) b
-      (λ q. all-each (answer.blockOk F S) (blockCount F) (both-right (all (answer.groupOk S) (groupCount F)) (all (answer.blockOk F S) (blockCount F)) formed) b q)
-      l
-
   -- the diagnosis of a block's new bytes is a number of 16 bits
   diagnosis-small : (b : ℕ) → b < blockCount F → decode (newBlock F R S b) .diagnosis < 65536
   unfolding newBlock net blockStep
@@ -152,7 +152,7 @@ module _ (F R S H : List ℕ) (g : Good F) (long : length S ≡ answer.stateLeng
   finding-told b l e =
       let new = newBlock F R S b in
       let code = eqb-true (codeOf new) 4 (both-left (eqb (codeOf new) 4) (not (eqb (codeOf (cell F S b)) 4)) e) in
-      let nonzero = diagnosed (kindOf F b) (parametersOf F b) (decode new) (state-of (kindOf F b) (parametersOf F b) new (block-formed b l)) code in
+      let nonzero = diagnosed (kindOf F b) (parametersOf F b) (decode new) (state-of (kindOf F b) (parametersOf F b) new (block-formed F R S g formed b l)) code in
       ap (λ (m : ℕ). not (eqb m 0)) (bytes-word2 (decode new .diagnosis) (diagnosis-small b l)) ∙ ap not (ne-eqb (decode new .diagnosis) 0 nonzero)
 
   pub note-is : (b : ℕ) → b < blockCount F → noteIn (gather (blockCount F) (slotWith F R H (decidedState F R S))) b ≡ slotWith F R H (decidedState F R S) b

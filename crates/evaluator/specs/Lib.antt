@@ -4,4 +4,5 @@ pub mod Packed
 pub mod Cycle
 pub mod Answer
 pub mod Fresh
+pub mod Steps
 pub mod Fits

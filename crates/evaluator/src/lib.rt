@@ -7,6 +7,9 @@ ghost use lib.ListN.{length};
 ghost use Rattle.wire.specs.Records.{gather};
 ghost use Rattle.block.specs.State.{freshState, encode};
 ghost use Rattle.evaluator.specs.Answer.{lends, cycleOf};
+ghost use Rattle.casefile.specs.Layout.{blockCount};
+ghost use Rattle.evaluator.specs.Fits.{Ready, Ranked, errorList};
+ghost use Rattle.evaluator.specs.Steps.{Taken, stepAnswer, stepState, stepFindings};
 ghost use Rattle.evaluator.specs.Fresh.{sizesOf, freshNumber, freshLeft};
 
 mod advance;
@@ -16,6 +19,8 @@ mod groups;
 mod outputs;
 mod ranks;
 mod turns;
+
+use casefile::Layout;
 
 // What a cycle call answers: the count of findings, or the number with which it was turned down.
 pub enum Answer {
@@ -114,4 +119,44 @@ pub fn fresh(file: &[u8], state: &mut [u8]) -> u8
     wire::clear(state);
     fresh_blocks(&mut state[groups..], blocks);
     0
+}
+
+// ---- for a whole trace, whose file is checked once. What these three require is what `fresh` has tested and what they themselves leave.
+
+// The blocks by execution number.
+pub fn block_order(file: &[u8], l: Layout) -> [u8; 64]
+    requires { ⌜ Taken (now file) l ⌝ }
+    ensures { λ r. ⌜ Ranked (now (file .entry)) (blockCount (now (file .entry))) r ⌝ }
+{
+    ranks::ranks(file, l.block, l.blocks)
+}
+
+// The groups that have a block in ERROR, a byte each.
+pub fn groups_in_error(file: &[u8], l: Layout, state: &[u8]) -> [u8; 8]
+    requires { ⌜ Taken (now file) l ⌝ }
+    ensures { λ r. ⌜ r ≡ errorList (now (file .entry)) (now (state .entry)) ⌝ }
+{
+    groups::error_groups(file, l.block, l.groups, l.blocks, state)
+}
+
+// One cycle of an accepted file from a well-formed state.
+pub fn step(
+    file: &[u8],
+    l: Layout,
+    order: &[u8],
+    errors: &[u8],
+    rec: &[u8],
+    state: &mut [u8],
+    findings: &mut [u8],
+) -> Answer
+    requires { ⌜ Ready (now file) l (now order) (now errors) (now state) (now findings) ⌝ }
+    ensures answered { λ r. ⌜ r ≡ stepAnswer (now (file .entry)) (now (rec .entry)) (now (state .entry)) ⌝ }
+    ensures left { λ _. ⌜ now (state .exit) ≡ stepState (now (file .entry)) (now (rec .entry)) (now (state .entry)) ⌝ }
+    ensures told { λ _. ⌜ now (findings .exit) ≡ stepFindings (now (file .entry)) (now (rec .entry)) (now (state .entry)) (now (findings .entry)) ⌝ }
+{
+    if !checks::record_ok(file, l, rec) {
+        return Answer::Refused(12);
+    }
+    let count = advance::advance(file, l, order, errors, rec, state, findings);
+    Answer::Findings(count)
 }

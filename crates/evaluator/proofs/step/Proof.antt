@@ -1,0 +1,32 @@
+-- `evaluator::step` meets its contract: the test of the record says which case holds.
+use mathlib.Core.Path.{refl, ap}
+use borrow.Author.Needs.{needs}
+use Rattle.wire.proofs.Places.{ok, bad}
+use Rattle.evaluator.specs.declared.Answer.the-variants.{Findings}
+use Rattle.evaluator.specs.Steps.{stepAnswer, stepState, stepFindings}
+use Rattle.evaluator.proofs.step.Statement.{statement}
+use Rattle.evaluator.proofs.step.Tie as tie
+
+returns : tie.Need-returns
+unfolding stepAnswer stepState stepFindings
+returns c = let e = bad (c .before .record-ok .ensures) (c .if1 .taken) in (rw e, (rw e, rw e))
+
+returns-2 : tie.Need-returns-2
+unfolding stepAnswer stepState stepFindings
+returns-2 c =
+    let v = c .before .before .before .before in
+    let t = v .before .before .before in
+    let e = ok (t .before .record-ok .ensures) (t .if1 .left) in
+    let r = v .advance .ensures in
+    (rw e (ap Findings (r .1 .1)), (rw e (r .0), rw e (r .1 .0)))
+
+pub step-spec : {M : Type 1} → statement M
+step-spec =
+    tie.close
+    (tie.spec
+    (λ c κs. search needs)
+    returns
+    (λ c κs. search needs)
+    (λ c. search needs)
+    (λ c. search needs)
+    returns-2)
