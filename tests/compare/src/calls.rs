@@ -85,15 +85,15 @@ impl Calls {
 
     fn call(&mut self) -> Request {
         match self.random.below(100) {
-            0..=54 => self.good_cycle(),
-            55..=64 => {
+            0..=48 => self.good_cycle(),
+            49..=58 => {
                 self.state = well_formed(&mut self.random, &self.case);
                 self.good_cycle()
             }
-            65..=73 => self.damaged(&[State]),
-            74..=80 => self.damaged(&[Record]),
-            81..=84 => self.damaged(&[Length]),
-            85..=96 => self.damaged_file(),
+            59..=67 => self.damaged(&[State]),
+            68..=74 => self.damaged(&[Record]),
+            75..=78 => self.damaged(&[Length]),
+            79..=96 => self.damaged_file(),
             97 => self.damaged(&[State, Record]),
             98 => self.damaged(&[Length, State]),
             _ => self.damaged(&[Length, Record]),
@@ -167,10 +167,8 @@ impl Calls {
 
     fn any_damaged_file(&mut self) -> Vec<u8> {
         let random = &mut self.random;
-        let mut number = 1 + random.below(9) as u8;
-        if number == 1 && random.one_in(2) {
-            number = 2;
-        }
+        // Numbers with more rules behind them come more often.
+        let number = random.pick(&[1, 2, 2, 3, 3, 4, 4, 5, 5, 5, 5, 5, 6, 6, 7, 7, 7, 8, 8, 9]);
         match random.below(8) {
             0 => damage::one_byte(random, &self.case),
             1..=2 if number > 3 => {

@@ -120,8 +120,8 @@ pub fn value(random: &mut Random, ty: u8) -> i64 {
     let (least, greatest) = range(ty);
     let power = 1i64 << random.pick(&[0, 3, 15, 16, 31, 32]);
     let value = match random.below(8) {
-        0..=3 => random.between(-3, 9),
-        4 if random.one_in(2) => least + random.between(0, 2),
+        0..=2 => random.between(-3, 9),
+        3 => least + random.between(0, 2),
         4 => greatest - random.between(0, 2),
         5 => random.pick(&[power, -power]) + random.between(-1, 1),
         6 => random.between(-400, 400),

@@ -141,7 +141,7 @@ fn inputs(random: &mut Random, case: &mut Case) {
 fn blocks(random: &mut Random, case: &mut Case) {
     let block = random.below(case.blocks());
     let groups = case.groups();
-    match random.below(14) {
+    match random.below(20) {
         0 => case.b.truncate(case.b.len() - 1 - random.below(39)),
         1 => case.b.clear(),
         2 => case.b.push(0),

@@ -253,8 +253,9 @@ pub fn parameters(random: &mut Random, kind: u8) -> [u8; 12] {
             bytes[6..8].copy_from_slice(&between_pairs(random).to_le_bytes());
         }
         _ => {
-            for byte in &mut bytes[..3] {
-                *byte = random.below(4) as u8;
+            bytes[..3].fill(random.below(4) as u8);
+            if !random.one_in(3) {
+                bytes[..3].fill_with(|| random.below(4) as u8);
             }
             if kind == DIV {
                 bytes[3] = random.below(3) as u8;
