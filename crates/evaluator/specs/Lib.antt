@@ -5,3 +5,4 @@ pub mod Cycle
 pub mod Answer
 pub mod Fresh
 pub mod Fits
+pub mod Demands

@@ -1,0 +1,73 @@
+-- The three demands on the product, over bytes (01, "What the reviewer must be able to rely on" and "Turned down: numbers and order"). F is a file, R a cycle's
+-- record, L the three lent buffers, `cycleOf F R L` what the call answers and leaves. The contract of `evaluator::cycle` is an equation with `cycleOf` for the answer
+-- and for each buffer, so what is proved of `cycleOf` holds of the code. The proofs are `demand1`, `demand2`, `demand3` of proofs/Demand1.antt to Demand3.antt.
+use Prim.Native.Nat.{ℕ, zero, suc, _+_, _*_, _<_}
+use mathlib.Core.Path.{_≡_}
+use mathlib.Core.Logic.{_↔_, _≢_}
+use mathlib.Core.Bool.{Bool, true, false, _&&_}
+use mathlib.Core.List.{List, [], _∷_}
+use lib.ListN.{length}
+use Rattle.wire.specs.Words.{byteAt}
+use Rattle.wire.specs.Places.{all}
+use Rattle.casefile.specs.declared.Source.the-variants.{Output}
+use Rattle.casefile.specs.declared.Verdict.the-variants.{Accepted}
+use Rattle.casefile.specs.Layout.{bodyB, bodyStart, blockSize, groupCount, inputCount, blockCount, outputCount, orderOf, linkOf}
+use Rattle.casefile.specs.Rules.{sizeOk, contentsOk, groupsSizeOk, groupOk, inputsSizeOk, inputOk, blocksSizeOk, blockOk, orderOk, linksOk, outputsSizeOk, outputOk, channelsOk, traceOk}
+use Rattle.casefile.specs.Refusal.{verdict}
+use Rattle.evaluator.specs.declared.Answer.the-variants.{Findings, Refused}
+use Rattle.evaluator.specs.Net.{words, seen}
+use Rattle.evaluator.specs.Groups.{cell, phase}
+use Rattle.evaluator.specs.Packed.{hits}
+use Rattle.evaluator.specs.Cycle.{wires, blockStep, newBlock, wordsRead, newState, newOutputs, newFindings, enters, findingFor, finding, findingCount}
+use Rattle.evaluator.specs.Answer.{Lent, Left, sizesOk, stateOk, recordOk, cycleOf, freshFor}
+
+-- ---- demand 1: the lowest number that applies, exactly then
+
+-- 01, "Turned down": the rules by their numbers, from 1 on; there is no number 0
+unfoldable pub rules : List ℕ → List ℕ → Lent → List Bool
+rules F R L =
+    true
+    ∷ sizeOk F
+    ∷ contentsOk F
+    ∷ (groupsSizeOk F && all (groupOk F) (groupCount F))
+    ∷ (inputsSizeOk F && all (inputOk F) (inputCount F))
+    ∷ (blocksSizeOk F && all (blockOk F) (blockCount F))
+    ∷ all (orderOk F) (blockCount F)
+    ∷ all (linksOk F) (blockCount F)
+    ∷ (outputsSizeOk F && all (outputOk F) (outputCount F) && all (channelsOk F) (blockCount F))
+    ∷ traceOk F
+    ∷ sizesOk F L
+    ∷ stateOk F (L .state)
+    ∷ recordOk F R
+    ∷ []
+
+-- general: the test at a place of a list; past its end every test holds
+abbrev pub holdsAt : List Bool → ℕ → Bool
+holdsAt [] n = true
+holdsAt (t ∷ ts) zero = t
+holdsAt (t ∷ ts) (suc n) = holdsAt ts n
+
+-- general: the test at n is the first that fails
+pub record FirstOf (ts : List Bool) (n : ℕ) : Type 0 where
+  pub fails : holdsAt ts n ≡ false
+  pub lower : (m : ℕ) → m < n → holdsAt ts m ≡ true
+
+-- 01, "Turned down": the number n applies to a call; n is the lowest that does; none does
+abbrev pub Applies : List ℕ → List ℕ → Lent → ℕ → Type 0
+Applies F R L n = holdsAt (rules F R L) n ≡ false
+
+abbrev pub Lowest : List ℕ → List ℕ → Lent → ℕ → Type 0
+Lowest F R L n = FirstOf (rules F R L) n
+
+abbrev pub NoneApplies : List ℕ → List ℕ → Lent → Type 0
+NoneApplies F R L = (n : ℕ) → holdsAt (rules F R L) n ≡ true
+
+-- 01, "Turned down": the lowest number wins; refused, a call writes nothing and returns the number; accepted, it returns the count of findings
+pub record Answered (F R : List ℕ) (L : Lent) : Type 0 where
+  pub refused : (n : ℕ) → (cycleOf F R L .answer ≡ Refused n) ↔ Lowest F R L n
+  pub untouched : (n : ℕ) → cycleOf F R L .answer ≡ Refused n → cycleOf F R L .lent ≡ L
+  pub accepted : (cycleOf F R L .answer ≡ Findings (findingCount F R (L .state))) ↔ NoneApplies F R L
+
+-- 01, "What the reviewer must be able to rely on": demand 1's "exactly then", for every file, record, state, outputs and findings
+unfoldable pub Demand1 : Type 0
+Demand1 = (F R : List ℕ) (L : Lent) → Answered F R L
