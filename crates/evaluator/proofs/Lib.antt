@@ -14,3 +14,4 @@ pub mod Words
 pub mod Checking
 pub mod FreshFormed
 pub mod Demand1
+pub mod Demand2

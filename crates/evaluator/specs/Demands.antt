@@ -71,3 +71,49 @@ pub record Answered (F R : List ℕ) (L : Lent) : Type 0 where
 -- 01, "What the reviewer must be able to rely on": demand 1's "exactly then", for every file, record, state, outputs and findings
 unfoldable pub Demand1 : Type 0
 Demand1 = (F R : List ℕ) (L : Lent) → Answered F R L
+
+-- ---- demand 2: an accepted cycle leaves exactly what the definitions say
+
+-- 01, "What the reviewer must be able to rely on": what is known of an accepted call that answered k, where S was the state
+pub record Cycled (F R : List ℕ) (L : Lent) (S : List ℕ) (k : ℕ) : Type 0 where
+  -- 01, "One cycle" and "Finding": the three buffers
+  pub state : cycleOf F R L .lent .state ≡ newState F R S
+  pub outputs : cycleOf F R L .lent .outputs ≡ newOutputs F R S
+  pub findings : cycleOf F R L .lent .findings ≡ newFindings F R S
+  -- 01, "What the reviewer must be able to rely on": the count is the number of blocks entering 4
+  pub counted : k ≡ hits (blockCount F) (enters F R S)
+  -- 01, "One cycle": each block's new bytes are its step from the old ones, on what it read
+  pub stepped : (b : ℕ) → b < blockCount F → newBlock F R S b ≡ blockStep F R (phase F R S) b (cell F S b) (wordsRead F R S b)
+  -- 01, "One cycle": it reads the new bytes of the blocks with smaller execution numbers and the old ones of the others
+  pub read : (b : ℕ) → wordsRead F R S b ≡ words (wires F R) (seen (orderOf F) (cell F S) (newBlock F R S) b) b
+  -- 01, "Finding": a finding's two inputs are among what its block read when it ran
+  pub found : (b : ℕ) → finding F R S b ≡ findingFor F b (wordsRead F R S b) (newBlock F R S b)
+  -- 01, "What the reviewer must be able to rely on": each state that an accepted cycle leaves is well formed
+  pub formed : stateOk F (cycleOf F R L .lent .state) ≡ true
+
+-- 01, "What the reviewer must be able to rely on": demand 2, and that the fresh state of an accepted project is well formed
+pub record Demand2 : Type 0 where
+  pub cycles : (F R : List ℕ) (L : Lent) (k : ℕ) → cycleOf F R L .answer ≡ Findings k → Cycled F R L (L .state) k
+  pub fresh : (F : List ℕ) → verdict F ≡ Accepted → stateOk F (freshFor F) ≡ true
+
+-- ---- demand 3: only the order along links matters
+
+-- 01, "The case file", B: i is the place of an execution number
+abbrev pub IsOrderByte : List ℕ → ℕ → ℕ → Type 0
+IsOrderByte F b i = i ≡ bodyStart F bodyB + blockSize * b + 2
+
+-- 01, "What the reviewer must be able to rely on", demand 3: two files are equal but for the execution-number bytes, and along every link from block to block
+-- the source runs before its reader in one exactly if it does so in the other
+pub record Alike (F F′ : List ℕ) : Type 0 where
+  pub long : length F ≡ length F′
+  pub bytes : (i : ℕ) → ((b : ℕ) → b < blockCount F → IsOrderByte F b i → ⊥) → byteAt F i ≡ byteAt F′ i
+  pub along : (b p a q : ℕ) → b < blockCount F → linkOf F b p ≡ Output a q → (orderOf F a < orderOf F b) ↔ (orderOf F′ a < orderOf F′ b)
+
+-- 01, "One cycle": what each call answers and leaves, one for each record, from the buffers that the one before left, refused ones among them
+unfoldable pub run : List ℕ → List (List ℕ) → Lent → List Left
+run F [] L = []
+run F (R ∷ Rs) L = cycleOf F R L ∷ run F Rs (cycleOf F R L .lent)
+
+-- 01, "What the reviewer must be able to rely on": demand 3, over demand 2's definition
+unfoldable pub Demand3 : Type 0
+Demand3 = (F F′ : List ℕ) → verdict F ≡ Accepted → verdict F′ ≡ Accepted → Alike F F′ → (Rs : List (List ℕ)) (L : Lent) → run F Rs L ≡ run F′ Rs L
