@@ -15,3 +15,4 @@ pub mod Checking
 pub mod FreshFormed
 pub mod Demand1
 pub mod Demand2
+pub mod Demand3
