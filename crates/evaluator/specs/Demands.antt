@@ -1,24 +1,28 @@
 -- The three demands on the product, over bytes (01, "What the reviewer must be able to rely on" and "Turned down: numbers and order"). F is a file, R a cycle's
 -- record, L the three lent buffers, `cycleOf F R L` what the call answers and leaves. The contract of `evaluator::cycle` is an equation with `cycleOf` for the answer
 -- and for each buffer, so what is proved of `cycleOf` holds of the code. The proofs are `demand1`, `demand2`, `demand3` of proofs/Demand1.antt to Demand3.antt.
-use Prim.Native.Nat.{ℕ, zero, suc, _+_, _*_, _<_}
+use Prim.Native.Nat.{ℕ, zero, suc, _+_, _*_, _≤_, _<_}
 use mathlib.Core.Path.{_≡_}
 use mathlib.Core.Logic.{_↔_, _≢_}
 use mathlib.Core.Bool.{Bool, true, false, _&&_}
 use mathlib.Core.List.{List, [], _∷_}
 use lib.ListN.{length}
 use Rattle.wire.specs.Words.{byteAt}
+use Rattle.wire.specs.Records.{slot}
 use Rattle.wire.specs.Places.{all}
 use Rattle.casefile.specs.declared.Source.the-variants.{Output}
 use Rattle.casefile.specs.declared.Verdict.the-variants.{Accepted}
-use Rattle.casefile.specs.Layout.{bodyB, bodyStart, blockSize, groupCount, inputCount, blockCount, outputCount, orderOf, linkOf}
+use Rattle.casefile.specs.Layout.{bodyB, bodyStart, blockSize, groupCount, inputCount, blockCount, outputCount, kindOf, groupOf, orderOf, parametersOf, linkOf}
 use Rattle.casefile.specs.Rules.{sizeOk, contentsOk, groupsSizeOk, groupOk, inputsSizeOk, inputOk, blocksSizeOk, blockOk, orderOk, linksOk, outputsSizeOk, outputOk, channelsOk, traceOk}
 use Rattle.casefile.specs.Refusal.{verdict}
+use Rattle.block.specs.State.{decode}
+use Rattle.block.specs.Inputs.{firstRead, secondRead}
+use Rattle.block.specs.Finding.{findingSize, findingBytes}
 use Rattle.evaluator.specs.declared.Answer.the-variants.{Findings, Refused}
 use Rattle.evaluator.specs.Net.{words, seen}
 use Rattle.evaluator.specs.Groups.{cell, phase}
 use Rattle.evaluator.specs.Packed.{hits}
-use Rattle.evaluator.specs.Cycle.{wires, blockStep, newBlock, wordsRead, newState, newOutputs, newFindings, enters, findingFor, finding, findingCount}
+use Rattle.evaluator.specs.Cycle.{wires, blockStep, newBlock, wordsRead, newState, newOutputs, newFindings, enters, findingCount}
 use Rattle.evaluator.specs.Answer.{Lent, Left, sizesOk, stateOk, recordOk, cycleOf, freshFor}
 
 -- ---- demand 1: the lowest number that applies, exactly then
@@ -86,8 +90,18 @@ pub record Cycled (F R : List ℕ) (L : Lent) (S : List ℕ) (k : ℕ) : Type 0 
   pub stepped : (b : ℕ) → b < blockCount F → newBlock F R S b ≡ blockStep F R (phase F R S) b (cell F S b) (wordsRead F R S b)
   -- 01, "One cycle": it reads the new bytes of the blocks with smaller execution numbers and the old ones of the others
   pub read : (b : ℕ) → wordsRead F R S b ≡ words (wires F R) (seen (orderOf F) (cell F S) (newBlock F R S) b) b
-  -- 01, "Finding": a finding's two inputs are among what its block read when it ran
-  pub found : (b : ℕ) → finding F R S b ≡ findingFor F b (wordsRead F R S b) (newBlock F R S b)
+  -- 01, "One cycle": and no other bytes meet these two
+  pub only :
+    (new : ℕ → List ℕ) → ((b : ℕ) → b < blockCount F → new b ≡ blockStep F R (phase F R S) b (cell F S b) (words (wires F R) (seen (orderOf F) (cell F S) new b) b)) →
+    (b : ℕ) → b < blockCount F → new b ≡ newBlock F R S b
+  -- 01, "Finding": the finding of a block that enters 4 stands after those of the blocks with lower numbers; its two inputs are those that the block read when it ran
+  pub found :
+    (b : ℕ) → b < blockCount F → enters F R S b ≡ true →
+    slot 0 findingSize (hits b (enters F R S)) (cycleOf F R L .lent .findings)
+    ≡ findingBytes b (groupOf F b) (kindOf F b) (decode (newBlock F R S b) .diagnosis)
+    (firstRead (kindOf F b) (parametersOf F b) (wordsRead F R S b)) (secondRead (kindOf F b) (parametersOf F b) (wordsRead F R S b))
+  -- 01, "Finding": unused finding bytes are zero
+  pub unused : (i : ℕ) → findingSize * k ≤ i → byteAt (cycleOf F R L .lent .findings) i ≡ 0
   -- 01, "What the reviewer must be able to rely on": each state that an accepted cycle leaves is well formed
   pub formed : stateOk F (cycleOf F R L .lent .state) ≡ true
 
