@@ -1,8 +1,8 @@
 -- Demand 1: a call is turned down with the lowest number that applies, exactly then, and leaves what it was lent as it was. The chain of tests is the list of
 -- the rules, and the answer is the first place at which one fails. Assumes nothing.
 use mathlib.Core.Path.{_≡_, refl, sym, ap, _∙_, subst}
-use mathlib.Core.Bool.{Bool, true, false, cond, _&&_, true≢false}
-use mathlib.Core.Logic.{_↔_, _≢_, _⊎_, inl, inr}
+use mathlib.Core.Bool.{Bool, true, false, _&&_, true≢false}
+use mathlib.Core.Logic.{_≢_, _⊎_, inl, inr}
 use mathlib.Core.List.{List, [], _∷_}
 use Prim.Native.Nat.{ℕ, zero, suc, _+_, _<_}
 use native.Mathlib.Nat.{not-suc-le-zero, le-of-suc-le-suc}
@@ -17,11 +17,16 @@ use Rattle.casefile.specs.Refusal as file
 use Rattle.evaluator.specs.declared.Answer.{Answer}
 use Rattle.evaluator.specs.declared.Answer.the-variants.{Findings, Refused}
 use Rattle.evaluator.specs.Cycle.{findingCount}
-use Rattle.evaluator.specs.Answer.{Lent, Left, sizesOk, stateOk, recordOk, unless, orLater, refusalAfter9, refusal, leaves, cycleOf, numberIn}
-use Rattle.evaluator.specs.Demands.{rules, holdsAt, FirstOf, Lowest, NoneApplies, Answered, Demand1}
+use Rattle.evaluator.specs.Answer.{Lent, Left, sizesOk, stateOk, recordOk, unless, orLater, refusalAfter9, refusal, cycleOf, numberIn}
+use Rattle.evaluator.specs.Demands.{rules, holdsAt, Applies, Lowest, NoneApplies, Answered, Demand1}
 use Rattle.evaluator.proofs.Calls.{call-refused, call-done}
 
 -- ---- a list of tests
+
+-- the test at n is the first that fails
+record FirstOf (ts : List Bool) (n : ℕ) : Type 0 where
+  fails : holdsAt ts n ≡ false
+  lower : (m : ℕ) → m < n → holdsAt ts m ≡ true
 
 -- the place of the first that fails, where the list's first stands at k; 0 where each holds
 abbrev first : ℕ → List Bool → ℕ
@@ -59,15 +64,6 @@ first-is k (true ∷ ts) = more (first-is (suc k) ts)
       place = omega (arith, f .place);
       is-first = record { fails = f .is-first .fails; lower = lower-more (f .past) (f .is-first .lower) };
     })
-
--- no two places are the first
-one-first : (ts : List Bool) (a b : ℕ) → FirstOf ts a → FirstOf ts b → a ≡ b
-one-first ts a b f g = go (decLt a b) (decLt b a)
-  where
-    go : Dec (a < b) → Dec (b < a) → a ≡ b
-    go (yes l) y = absurd (true≢false (sym (g .lower a l) ∙ f .fails))
-    go (no x) (yes l) = absurd (true≢false (sym (f .lower b l) ∙ g .fails))
-    go (no x) (no y) = omega (arith, x, y)
 
 -- ---- the chain of tests of a call, by its tests
 
@@ -124,11 +120,23 @@ module _ (F R : List ℕ) (L : Lent) where
   unfolding rules
   rule-0 = refl
 
+  holds-not : (n : ℕ) → holdsAt (rules F R L) n ≡ true → Applies F R L n → ⊥
+  holds-not n h f = true≢false (sym h ∙ f)
+
+  -- no two numbers are the lowest
+  one-lowest : (a b : ℕ) → Lowest F R L a → Lowest F R L b → a ≡ b
+  one-lowest a b f g = go (decLt a b) (decLt b a)
+    where
+      go : Dec (a < b) → Dec (b < a) → a ≡ b
+      go (yes l) y = absurd (g .lower a l (f .applies))
+      go (no x) (yes l) = absurd (f .lower b l (g .applies))
+      go (no x) (no y) = omega (arith, x, y)
+
   -- a call that no number applies to
   when-none : NoneApplies F R L → refusal F R L ≡ 0 → Answered F R L
   unfolding isRefused
   when-none h z = record {
-    refused = λ n. (λ e. absurd (true≢false (sym (ap isRefused (sym done ∙ e)))), λ f. absurd (true≢false (sym (h n) ∙ f .fails)));
+    refused = λ n. (λ e. absurd (true≢false (sym (ap isRefused (sym done ∙ e)))), λ f. absurd (h n (f .applies)));
     untouched = λ n e. absurd (true≢false (sym (ap isRefused (sym done ∙ e))));
     accepted = (λ _. h, λ _. done);
   }
@@ -136,17 +144,17 @@ module _ (F R : List ℕ) (L : Lent) where
       done : cycleOf F R L .answer ≡ Findings (findingCount F R (L .state))
       done = ap (λ (l : Left). l .answer) (call-done F R L z)
 
-  -- a call to which n is the first that applies
-  when-first : (n : ℕ) → FirstOf (rules F R L) n → refusal F R L ≡ n → Answered F R L
+  -- a call to which n is the lowest that applies
+  when-lowest : (n : ℕ) → Lowest F R L n → refusal F R L ≡ n → Answered F R L
   unfolding isRefused
-  when-first n f z = record {
-    refused = λ m. (λ e. subst (FirstOf (rules F R L)) (ap numberIn (sym turned ∙ e)) f, λ g. turned ∙ ap Refused (one-first (rules F R L) n m f g));
+  when-lowest n f z = record {
+    refused = λ m. (λ e. subst (Lowest F R L) (ap numberIn (sym turned ∙ e)) f, λ g. turned ∙ ap Refused (one-lowest n m f g));
     untouched = λ m e. ap (λ (l : Left). l .lent) whole;
-    accepted = (λ e. absurd (true≢false (ap isRefused (sym turned ∙ e))), λ h. absurd (true≢false (sym (h n) ∙ f .fails)));
+    accepted = (λ e. absurd (true≢false (ap isRefused (sym turned ∙ e))), λ h. absurd (h n (f .applies)));
   }
     where
       some : n ≢ 0
-      some e = true≢false (sym rule-0 ∙ subst (λ (k : ℕ). holdsAt (rules F R L) k ≡ false) e (f .fails))
+      some e = holds-not 0 rule-0 (subst (Applies F R L) e (f .applies))
 
       whole : cycleOf F R L ≡ record { answer = Refused n; lent = L }
       whole = call-refused F R L n z some
@@ -159,5 +167,8 @@ unfolding Demand1
 demand1 F R L = go (first-is 0 (rules F R L))
   where
     go : Holding (rules F R L) (first 0 (rules F R L)) ⊎ Failing 0 (rules F R L) (first 0 (rules F R L)) → Answered F R L
-    go (inl h) = when-none F R L (h .each) (refusal-first F R L ∙ h .none)
-    go (inr f) = when-first F R L (f .past) (f .is-first) (refusal-first F R L ∙ f .place ∙ omega arith)
+    go (inl h) = when-none F R L (λ n. holds-not F R L n (h .each n)) (refusal-first F R L ∙ h .none)
+    go (inr f) =
+        when-lowest F R L (f .past)
+        (record { applies = f .is-first .fails; lower = λ m l. holds-not F R L m (f .is-first .lower m l) })
+        (refusal-first F R L ∙ f .place ∙ omega arith)

@@ -1,18 +1,15 @@
 -- Demand 2: an accepted cycle leaves exactly what the definitions say. The buffers and the count are the call's definition; each block's step is the fixed point of
 -- the cycle (`fixed`); the state that is left is well formed, since a step keeps a block so and a group's byte becomes 0, 1, 3 or stays. Assumes nothing.
-use mathlib.Core.Path.{_≡_, refl, sym, ap, _∙_, subst}
-use mathlib.Core.Bool.{Bool, true, false, cond, not, _&&_, _||_, true≢false}
-use mathlib.Core.Logic.{_≢_}
+use mathlib.Core.Path.{_≡_, refl, sym, ap, _∙_}
+use mathlib.Core.Bool.{Bool, true, false, cond, not, _&&_, true≢false}
 use mathlib.Core.List.{List, [], _∷_, _++_, append-assoc, append-nil}
 use Prim.Native.Nat.{ℕ, zero, suc, _+_, _-_, _*_, _≤_, _<_}
 use native.Mathlib.Nat.{not-suc-le-zero, mul-zero, mul-suc, add-zero}
 use native.Mathlib.Numerals.{add-one}
 use native.Mathlib.Decide.{ℕ-discrete, decLt}
 use native.Mathlib.Omega.{arith}
-use lib.Dec.{eqb}
 use lib.ListN.{length, take, drop, replicate, length-append, length-replicate, getD-replicate, List·getD-append, List·getD-eq-default}
 use lib.Seq.{take-at, drop-at, getD-append-add}
-use borrow.Author.Tests.{eqb-true}
 use Rattle.wire.specs.Words.{byteAt}
 use Rattle.wire.specs.Records.{slot, gather}
 use Rattle.wire.specs.Places.{all}
@@ -31,7 +28,7 @@ use Rattle.evaluator.specs.Net.{words, seen}
 use Rattle.evaluator.specs.Groups.{cell, phase, groupNext, isHeld, isAcknowledged, newGroup, controlByte, isErrAck, isPending, hasError}
 use Rattle.evaluator.specs.Packed.{entries, hits, packed}
 use Rattle.evaluator.specs.Cycle.{net, blockStep, wires, newBlock, wordsRead, newState, newOutputs, newFindings, enters, findingFor, finding, findingCount}
-use Rattle.evaluator.specs.Answer.{Lent, Left, stateOk, sizesOk, recordOk, groupFormed, groupOk, blockOk, unless, orLater, refusalAfter9, refusal, cycleOf, freshFor}
+use Rattle.evaluator.specs.Answer.{Lent, Left, stateOk, sizesOk, recordOk, groupFormed, groupOk, blockOk, unless, orLater, refusalAfter9, refusal, cycleOf}
 use Rattle.evaluator.specs.Demands.{Cycled, Demand2}
 use Rattle.evaluator.proofs.Agree.{fixed, unique, keeps}
 use Rattle.evaluator.proofs.Deciding.{row-length, row-at}
@@ -100,8 +97,8 @@ module _ (F R S : List ℕ) (g : Good F) (formed : stateOk F S ≡ true) where
 
   -- and nothing else meets the equation of the steps
   pub new-only :
-    (new : ℕ → List ℕ) → ((b : ℕ) → b < blockCount F → new b ≡ blockStep F R (phase F R S) b (cell F S b) (words (wires F R) (seen (orderOf F) (cell F S) new b) b)) →
-    (b : ℕ) → b < blockCount F → new b ≡ newBlock F R S b
+      (new : ℕ → List ℕ) → ((b : ℕ) → b < blockCount F → new b ≡ blockStep F R (phase F R S) b (cell F S b) (words (wires F R) (seen (orderOf F) (cell F S) new b) b)) →
+      (b : ℕ) → b < blockCount F → new b ≡ newBlock F R S b
   unfolding newBlock net wires
   new-only new h b l =
       unique (λ b. b < blockCount F) (net F R (phase F R S)) (orderOf F) (cell F S) new (λ b p a q l x. from-output g b p a q l x .exists) h (blockCount F) b l

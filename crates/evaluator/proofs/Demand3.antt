@@ -1,34 +1,32 @@
 -- Demand 3: two accepted files that are equal but for the execution-number bytes, with the same order along every link from block to block, give the same runs.
 -- Every number that a cycle reads of the file but the execution numbers stands at another byte, and the execution numbers matter along links alone (`agree`).
 -- Assumes nothing.
-use mathlib.Core.Path.{_≡_, refl, sym, ap, ap₂, _∙_, subst, fun-ext}
-use mathlib.Core.Bool.{Bool, true, false, cond, not, _&&_, true≢false}
-use mathlib.Core.Logic.{_↔_, _≢_}
+use mathlib.Core.Path.{_≡_, refl, sym, ap, ap₂, _∙_, fun-ext}
+use mathlib.Core.Bool.{Bool, true, false, not, _&&_}
+use mathlib.Core.Logic.{_≢_}
 use mathlib.Core.List.{List, [], _∷_, _++_}
 use Prim.Native.Nat.{ℕ, zero, suc, _+_, _-_, _*_, _/_, _<_, _≤_}
 use native.Mathlib.Decide.{decLt}
 use native.Mathlib.Omega.{arith}
 use lib.Dec.{eqb, leb}
-use lib.ListN.{length, take, drop, length-drop}
+use lib.ListN.{length, drop, length-drop}
 use lib.Seq.{ext-getD, length-take-le}
 use Rattle.wire.specs.Words.{byteAt, word4, bytes4}
 use Rattle.wire.specs.Records.{slot, gather}
 use Rattle.wire.specs.Places.{all}
 use Rattle.wire.proofs.Places.{all-each, all-true}
 use Rattle.wire.proofs.Records.{gather-same}
-use Rattle.casefile.specs.declared.Source.{Source}
-use Rattle.casefile.specs.declared.Source.the-variants.{Output}
 use Rattle.casefile.specs.declared.Verdict.the-variants.{Accepted}
-use Rattle.casefile.specs.Layout.{bodyG, bodyI, bodyB, bodyO, bodyStart, bodySize, device, groupCount, runLinked, inputCount, inputType, inputRecord, blockCount, blockRecord, kindOf, groupOf, orderOf, parametersIn, parametersOf, sourceFrom, linkIn, linkOf, outputCount, outputRecord, outputBlock, outputPort, recordSize}
-use Rattle.casefile.specs.Refusal.{verdict, numberOf}
+use Rattle.casefile.specs.Layout.{bodyG, bodyI, bodyB, bodyO, bodyStart, bodySize, device, groupCount, runLinked, inputCount, inputType, blockCount, blockRecord, kindOf, groupOf, orderOf, parametersIn, parametersOf, sourceFrom, linkIn, linkOf, outputCount, outputRecord, outputBlock, outputPort, recordSize}
+use Rattle.casefile.specs.Refusal.{verdict}
 use Rattle.casefile.proofs.Accepted.{Good, accepted, from-output}
 use Rattle.casefile.proofs.Accepted as file
 use Rattle.casefile.proofs.Facts.{past-links}
 use Rattle.casefile.proofs.Bytes.{input-byte, block-byte, output-byte, parameter-byte}
-use Rattle.block.specs.State.{wellFormed, decode, encode}
+use Rattle.block.specs.State.{wellFormed, decode}
 use Rattle.block.specs.Shows.{wordOk, shows}
-use Rattle.evaluator.specs.declared.Answer.the-variants.{Findings, Refused}
-use Rattle.evaluator.specs.Net.{Wires, Net, reads, seen}
+use Rattle.evaluator.specs.declared.Answer.the-variants.{Findings}
+use Rattle.evaluator.specs.Net.{reads, seen}
 use Rattle.evaluator.specs.Groups.{elapsed, controlByte, inputWord, cell, erredIn, hasError, isPending, isErrAck, groupNext, phaseFrom, runsWith, newGroup, phase, codeOf}
 use Rattle.evaluator.specs.Packed.{hits, packed}
 use Rattle.evaluator.specs.Cycle.{portShows, wires, blockStep, net, newBlock, wordsRead, newState, outputWord, newOutputs, entersFrom, enters, findingFor, finding, findingCount, newFindings}

@@ -3,7 +3,7 @@
 -- and for each buffer, so what is proved of `cycleOf` holds of the code. The proofs are `demand1`, `demand2`, `demand3` of proofs/Demand1.antt to Demand3.antt.
 use Prim.Native.Nat.{ℕ, zero, suc, _+_, _*_, _≤_, _<_}
 use mathlib.Core.Path.{_≡_}
-use mathlib.Core.Logic.{_↔_, _≢_}
+use mathlib.Core.Logic.{_↔_}
 use mathlib.Core.Bool.{Bool, true, false, _&&_}
 use mathlib.Core.List.{List, [], _∷_}
 use lib.ListN.{length}
@@ -51,20 +51,16 @@ holdsAt [] n = true
 holdsAt (t ∷ ts) zero = t
 holdsAt (t ∷ ts) (suc n) = holdsAt ts n
 
--- general: the test at n is the first that fails
-pub record FirstOf (ts : List Bool) (n : ℕ) : Type 0 where
-  pub fails : holdsAt ts n ≡ false
-  pub lower : (m : ℕ) → m < n → holdsAt ts m ≡ true
-
 -- 01, "Turned down": the number n applies to a call; n is the lowest that does; none does
 abbrev pub Applies : List ℕ → List ℕ → Lent → ℕ → Type 0
 Applies F R L n = holdsAt (rules F R L) n ≡ false
 
-abbrev pub Lowest : List ℕ → List ℕ → Lent → ℕ → Type 0
-Lowest F R L n = FirstOf (rules F R L) n
+pub record Lowest (F R : List ℕ) (L : Lent) (n : ℕ) : Type 0 where
+  pub applies : Applies F R L n
+  pub lower : (m : ℕ) → m < n → Applies F R L m → ⊥
 
 abbrev pub NoneApplies : List ℕ → List ℕ → Lent → Type 0
-NoneApplies F R L = (n : ℕ) → holdsAt (rules F R L) n ≡ true
+NoneApplies F R L = (n : ℕ) → Applies F R L n → ⊥
 
 -- 01, "Turned down": the lowest number wins; refused, a call writes nothing and returns the number; accepted, it returns the count of findings
 pub record Answered (F R : List ℕ) (L : Lent) : Type 0 where
@@ -92,14 +88,14 @@ pub record Cycled (F R : List ℕ) (L : Lent) (S : List ℕ) (k : ℕ) : Type 0 
   pub read : (b : ℕ) → wordsRead F R S b ≡ words (wires F R) (seen (orderOf F) (cell F S) (newBlock F R S) b) b
   -- 01, "One cycle": and no other bytes meet these two
   pub only :
-    (new : ℕ → List ℕ) → ((b : ℕ) → b < blockCount F → new b ≡ blockStep F R (phase F R S) b (cell F S b) (words (wires F R) (seen (orderOf F) (cell F S) new b) b)) →
-    (b : ℕ) → b < blockCount F → new b ≡ newBlock F R S b
+      (new : ℕ → List ℕ) → ((b : ℕ) → b < blockCount F → new b ≡ blockStep F R (phase F R S) b (cell F S b) (words (wires F R) (seen (orderOf F) (cell F S) new b) b)) →
+      (b : ℕ) → b < blockCount F → new b ≡ newBlock F R S b
   -- 01, "Finding": the finding of a block that enters 4 stands after those of the blocks with lower numbers; its two inputs are those that the block read when it ran
   pub found :
-    (b : ℕ) → b < blockCount F → enters F R S b ≡ true →
-    slot 0 findingSize (hits b (enters F R S)) (cycleOf F R L .lent .findings)
-    ≡ findingBytes b (groupOf F b) (kindOf F b) (decode (newBlock F R S b) .diagnosis)
-    (firstRead (kindOf F b) (parametersOf F b) (wordsRead F R S b)) (secondRead (kindOf F b) (parametersOf F b) (wordsRead F R S b))
+      (b : ℕ) → b < blockCount F → enters F R S b ≡ true →
+      slot 0 findingSize (hits b (enters F R S)) (cycleOf F R L .lent .findings)
+      ≡ findingBytes b (groupOf F b) (kindOf F b) (decode (newBlock F R S b) .diagnosis)
+      (firstRead (kindOf F b) (parametersOf F b) (wordsRead F R S b)) (secondRead (kindOf F b) (parametersOf F b) (wordsRead F R S b))
   -- 01, "Finding": unused finding bytes are zero
   pub unused : (i : ℕ) → findingSize * k ≤ i → byteAt (cycleOf F R L .lent .findings) i ≡ 0
   -- 01, "What the reviewer must be able to rely on": each state that an accepted cycle leaves is well formed
