@@ -62,7 +62,8 @@ module _ (F R S : List ℕ) (g : Good F) (formed : stateOk F S ≡ true) where
   new-head : (k : ℕ) → k < groupCount F → byteAt (newState F R S) k ≡ newGroup F R S k
   unfolding newState
   new-head k l =
-      List·getD-append (gather (groupCount F) (λ k. newGroup F R S k ∷ [])) (gather (blockCount F) (newBlock F R S)) 0 k (rw (row-length (groupCount F) (newGroup F R S)) l)
+      List·getD-append (gather (groupCount F) (λ k. newGroup F R S k ∷ [])) (gather (blockCount F) (newBlock F R S)) 0 k
+      (rw (row-length (groupCount F) (newGroup F R S)) l)
       ∙ row-at (groupCount F) (newGroup F R S) k l
 
   new-cell : (b : ℕ) → b < blockCount F → cell F (newState F R S) b ≡ newBlock F R S b
@@ -97,7 +98,8 @@ module _ (F R S : List ℕ) (g : Good F) (formed : stateOk F S ≡ true) where
 
   -- and nothing else meets the equation of the steps
   pub new-only :
-      (new : ℕ → List ℕ) → ((b : ℕ) → b < blockCount F → new b ≡ blockStep F R (phase F R S) b (cell F S b) (words (wires F R) (seen (orderOf F) (cell F S) new b) b)) →
+      (new : ℕ → List ℕ) →
+      ((b : ℕ) → b < blockCount F → new b ≡ blockStep F R (phase F R S) b (cell F S b) (words (wires F R) (seen (orderOf F) (cell F S) new b) b)) →
       (b : ℕ) → b < blockCount F → new b ≡ newBlock F R S b
   unfolding newBlock net wires
   new-only new h b l =
@@ -129,7 +131,9 @@ module _ (w : ℕ) (hit : ℕ → Bool) (f : ℕ → List ℕ) (long : (b : ℕ)
       go : (b < n → From n b) → Dec (b ≡ n) → From (suc n) b
       go r (yes e) = record {
         rest = [];
-        parts = ap (λ (k : ℕ). entries k hit f ++ cond (hit k) (f k) []) (sym e) ∙ ap (λ (t : Bool). entries b hit f ++ cond t (f b) []) h ∙ ap (λ (t : List ℕ). entries b hit f ++ t) (sym (append-nil (f b)));
+        parts =
+            ap (λ (k : ℕ). entries k hit f ++ cond (hit k) (f k) []) (sym e) ∙ ap (λ (t : Bool). entries b hit f ++ cond t (f b) []) h
+            ∙ ap (λ (t : List ℕ). entries b hit f ++ t) (sym (append-nil (f b)));
       }
       go r (no e) =
           let c = r (omega (arith, e)) in
@@ -181,9 +185,9 @@ module _ (w : ℕ) (hit : ℕ → Bool) (f : ℕ → List ℕ) (long : (b : ℕ)
 
 module _ (F R : List ℕ) (L : Lent) where
   -- what an accepted call has passed
-  pub record Passed : Type 0 where
-    pub file : verdict F ≡ Accepted
-    pub state : stateOk F (L .state) ≡ true
+  record Passed : Type 0 where
+    file : verdict F ≡ Accepted
+    state : stateOk F (L .state) ≡ true
 
   later-zero : (n later : ℕ) → orLater n later ≡ 0 → (n ≡ 0) × (later ≡ 0)
   later-zero zero later e = (refl, e)
@@ -194,7 +198,7 @@ module _ (F R : List ℕ) (L : Lent) where
   second true false c e = absurd (omega arith)
   second false b c e = absurd (omega arith)
 
-  pub passed : refusal F R L ≡ 0 → Passed
+  passed : refusal F R L ≡ 0 → Passed
   unfolding refusal refusalAfter9
   passed e =
       let h = later-zero (numberOf (verdict F)) (refusalAfter9 F R L) e in
@@ -227,8 +231,12 @@ module _ (F R : List ℕ) (L : Lent) where
     stepped = new-stepped F R (L .state) good (p .state);
     read = λ b. refl;
     only = new-only F R S good (p .state);
-    found = λ b l h. ap (λ (t : Left). slot 0 16 (hits b (enters F R S)) (t .lent .findings)) done ∙ packed-at 16 (enters F R S) (finding F R S) (λ b. finding-length F b _ _) (16 * blockCount F) (blockCount F) b l h;
-    unused = λ i l. ap (λ (t : Left). byteAt (t .lent .findings) i) done ∙ packed-past 16 (enters F R S) (finding F R S) (λ b. finding-length F b _ _) (16 * blockCount F) (blockCount F) i (rw counted at l);
+    found = λ b l h.
+        ap (λ (t : Left). slot 0 16 (hits b (enters F R S)) (t .lent .findings)) done
+        ∙ packed-at 16 (enters F R S) (finding F R S) (λ b. finding-length F b _ _) (16 * blockCount F) (blockCount F) b l h;
+    unused = λ i l.
+        ap (λ (t : Left). byteAt (t .lent .findings) i) done
+        ∙ packed-past 16 (enters F R S) (finding F R S) (λ b. finding-length F b _ _) (16 * blockCount F) (blockCount F) i (rw counted at l);
     formed = ap (λ (l : Left). stateOk F (l .lent .state)) done ∙ new-formed F R (L .state) good (p .state);
   }
     where

@@ -27,22 +27,22 @@ use Rattle.evaluator.specs.Answer.{Lent, Left, sizesOk, stateOk, recordO
 
 -- ---- demand 1: the lowest number that applies, exactly then
 
--- 01, "Turned down": the rules by their numbers, from 1 on; there is no number 0
+-- 01, "Turned down": the rules by their numbers, 1 to 12, each true where it is kept; there is no number 0. 1 to 9 are of the file, 10 to 12 of the call
 unfoldable pub rules : List ℕ → List ℕ → Lent → List Bool
 rules F R L =
     true
-    ∷ sizeOk F
-    ∷ contentsOk F
-    ∷ (groupsSizeOk F && all (groupOk F) (groupCount F))
-    ∷ (inputsSizeOk F && all (inputOk F) (inputCount F))
-    ∷ (blocksSizeOk F && all (blockOk F) (blockCount F))
-    ∷ all (orderOk F) (blockCount F)
-    ∷ all (linksOk F) (blockCount F)
-    ∷ (outputsSizeOk F && all (outputOk F) (outputCount F) && all (channelsOk F) (blockCount F))
-    ∷ traceOk F
-    ∷ sizesOk F L
-    ∷ stateOk F (L .state)
-    ∷ recordOk F R
+    ∷ sizeOk F  -- 1
+    ∷ contentsOk F  -- 2
+    ∷ (groupsSizeOk F && all (groupOk F) (groupCount F))  -- 3
+    ∷ (inputsSizeOk F && all (inputOk F) (inputCount F))  -- 4
+    ∷ (blocksSizeOk F && all (blockOk F) (blockCount F))  -- 5
+    ∷ all (orderOk F) (blockCount F)  -- 6
+    ∷ all (linksOk F) (blockCount F)  -- 7
+    ∷ (outputsSizeOk F && all (outputOk F) (outputCount F) && all (channelsOk F) (blockCount F))  -- 8
+    ∷ traceOk F  -- 9
+    ∷ sizesOk F L  -- 10
+    ∷ stateOk F (L .state)  -- 11
+    ∷ recordOk F R  -- 12
     ∷ []
 
 -- general: the test at a place of a list; past its end every test holds
@@ -88,7 +88,8 @@ pub record Cycled (F R : List ℕ) (L : Lent) (S : List ℕ) (k : ℕ) : Type 0 
   pub read : (b : ℕ) → wordsRead F R S b ≡ words (wires F R) (seen (orderOf F) (cell F S) (newBlock F R S) b) b
   -- 01, "One cycle": and no other bytes meet these two
   pub only :
-      (new : ℕ → List ℕ) → ((b : ℕ) → b < blockCount F → new b ≡ blockStep F R (phase F R S) b (cell F S b) (words (wires F R) (seen (orderOf F) (cell F S) new b) b)) →
+      (new : ℕ → List ℕ) →
+      ((b : ℕ) → b < blockCount F → new b ≡ blockStep F R (phase F R S) b (cell F S b) (words (wires F R) (seen (orderOf F) (cell F S) new b) b)) →
       (b : ℕ) → b < blockCount F → new b ≡ newBlock F R S b
   -- 01, "Finding": the finding of a block that enters 4 stands after those of the blocks with lower numbers; its two inputs are those that the block read when it ran
   pub found :
@@ -108,7 +109,7 @@ pub record Demand2 : Type 0 where
 
 -- ---- demand 3: only the order along links matters
 
--- 01, "The case file", B: i is the place of an execution number
+-- 01, "The case file", B: i is the place of block b's execution number
 abbrev pub IsOrderByte : List ℕ → ℕ → ℕ → Type 0
 IsOrderByte F b i = i ≡ bodyStart F bodyB + blockSize * b + 2
 
