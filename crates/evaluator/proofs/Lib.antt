@@ -13,3 +13,6 @@ pub mod Calls
 pub mod Words
 pub mod Checking
 pub mod FreshFormed
+pub mod Demand1
+pub mod Demand2
+pub mod Demand3

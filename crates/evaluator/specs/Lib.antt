@@ -6,3 +6,4 @@ pub mod Answer
 pub mod Fresh
 pub mod Steps
 pub mod Fits
+pub mod Demands

@@ -1,0 +1,265 @@
+-- Demand 2: an accepted cycle leaves exactly what the definitions say. The buffers and the count are the call's definition; each block's step is the fixed point of
+-- the cycle (`fixed`); the state that is left is well formed, since a step keeps a block so and a group's byte becomes 0, 1, 3 or stays. Assumes nothing.
+use mathlib.Core.Path.{_≡_, refl, sym, ap, _∙_}
+use mathlib.Core.Bool.{Bool, true, false, cond, not, _&&_, true≢false}
+use mathlib.Core.List.{List, [], _∷_, _++_, append-assoc, append-nil}
+use Prim.Native.Nat.{ℕ, zero, suc, _+_, _-_, _*_, _≤_, _<_}
+use native.Mathlib.Nat.{not-suc-le-zero, mul-zero, mul-suc, add-zero}
+use native.Mathlib.Numerals.{add-one}
+use native.Mathlib.Decide.{ℕ-discrete, decLt}
+use native.Mathlib.Omega.{arith}
+use lib.ListN.{length, take, drop, replicate, length-append, length-replicate, getD-replicate, List·getD-append, List·getD-eq-default}
+use lib.Seq.{take-at, drop-at, getD-append-add}
+use Rattle.wire.specs.Words.{byteAt}
+use Rattle.wire.specs.Records.{slot, gather}
+use Rattle.wire.specs.Places.{all}
+use Rattle.wire.proofs.Places.{all-each, all-true, both-left, both-right}
+use Rattle.wire.proofs.Records.{slot-past, slot-gather}
+use Rattle.casefile.specs.declared.Verdict.the-variants.{Accepted}
+use Rattle.casefile.specs.Layout.{groupCount, blockCount, orderOf, kindOf, parametersOf}
+use Rattle.casefile.specs.Refusal.{verdict, numberOf}
+use Rattle.casefile.proofs.Accepted.{Good, accepted, from-output}
+use Rattle.block.specs.State.{wellFormed}
+use Rattle.block.proofs.Bits.{both}
+use Rattle.block.proofs.Kept.{step-keeps}
+use Rattle.evaluator.specs.declared.Answer.{Answer}
+use Rattle.evaluator.specs.declared.Answer.the-variants.{Findings, Refused}
+use Rattle.evaluator.specs.Net.{words, seen}
+use Rattle.evaluator.specs.Groups.{cell, phase, groupNext, isHeld, isAcknowledged, newGroup, controlByte, isErrAck, isPending, hasError}
+use Rattle.evaluator.specs.Packed.{entries, hits, packed}
+use Rattle.evaluator.specs.Cycle.{net, blockStep, wires, newBlock, wordsRead, newState, newOutputs, newFindings, enters, findingFor, finding, findingCount}
+use Rattle.evaluator.specs.Answer.{Lent, Left, stateOk, sizesOk, recordOk, groupFormed, groupOk, blockOk, unless, orLater, refusalAfter9, refusal, cycleOf}
+use Rattle.evaluator.specs.Demands.{Cycled, Demand2}
+use Rattle.evaluator.proofs.Agree.{fixed, unique, keeps}
+use Rattle.evaluator.proofs.Deciding.{row-length, row-at}
+use Rattle.evaluator.proofs.Calls.{number-zero, call-refused, call-done}
+use Rattle.evaluator.proofs.Cycles.{block-length}
+use Rattle.evaluator.proofs.Running.{finding-length}
+use Rattle.evaluator.proofs.FreshFormed.{fresh-state-ok}
+
+-- ---- the state that is left is well formed
+
+-- 01, "One cycle", 1 to 3: a group's byte stays 0, 1 or 3
+group-kept : (pending ack : Bool) (old : ℕ) → groupFormed old ≡ true → groupFormed (groupNext pending ack old) ≡ true
+unfolding groupNext
+group-kept true ack old h = refl
+group-kept false ack old h = next (isHeld old && ack) (isHeld old && isAcknowledged old && not ack)
+  where
+    next : (a b : Bool) → groupFormed (cond a 3 (cond b 0 old)) ≡ true
+    next true b = refl
+    next false true = refl
+    next false false = h
+
+module _ (F R S : List ℕ) (g : Good F) (formed : stateOk F S ≡ true) where
+  groups-formed : all (groupOk S) (groupCount F) ≡ true
+  unfolding stateOk
+  groups-formed = both-left (all (groupOk S) (groupCount F)) (all (blockOk F S) (blockCount F)) formed
+
+  blocks-formed : all (blockOk F S) (blockCount F) ≡ true
+  unfolding stateOk
+  blocks-formed = both-right (all (groupOk S) (groupCount F)) (all (blockOk F S) (blockCount F)) formed
+
+  new-head : (k : ℕ) → k < groupCount F → byteAt (newState F R S) k ≡ newGroup F R S k
+  unfolding newState
+  new-head k l =
+      List·getD-append (gather (groupCount F) (λ k. newGroup F R S k ∷ [])) (gather (blockCount F) (newBlock F R S)) 0 k
+      (rw (row-length (groupCount F) (newGroup F R S)) l)
+      ∙ row-at (groupCount F) (newGroup F R S) k l
+
+  new-cell : (b : ℕ) → b < blockCount F → cell F (newState F R S) b ≡ newBlock F R S b
+  unfolding cell newState
+  new-cell b q =
+      slot-gather (groupCount F) 16 (blockCount F) (gather (groupCount F) (λ k. newGroup F R S k ∷ [])) (newBlock F R S) (row-length (groupCount F) (newGroup F R S))
+      (λ k p. block-length F R S g k p) b q
+
+  new-group : (k : ℕ) → k < groupCount F → groupOk (newState F R S) k ≡ true
+  unfolding newGroup
+  new-group k l =
+      ap groupFormed (new-head k l)
+      ∙ group-kept (isPending (controlByte R k) (hasError F S k)) (isErrAck (controlByte R k)) (byteAt S k) (all-each (groupOk S) (groupCount F) groups-formed k l)
+
+  new-block : (b : ℕ) → b < blockCount F → wellFormed (kindOf F b) (parametersOf F b) (newBlock F R S b) ≡ true
+  unfolding newBlock net blockStep blockOk
+  new-block b l =
+      keeps (λ b s. b < blockCount F → wellFormed (kindOf F b) (parametersOf F b) s ≡ true) (net F R (phase F R S)) (orderOf F) (cell F S)
+      (λ b s f h q. step-keeps (kindOf F b) (parametersOf F b) _ _ _ _ _ s (g .block b q .parameters) (h q))
+      (blockCount F) b (λ q. all-each (blockOk F S) (blockCount F) blocks-formed b q) l
+
+  pub new-formed : stateOk F (newState F R S) ≡ true
+  unfolding stateOk blockOk
+  new-formed =
+      both (all-true (groupOk (newState F R S)) (groupCount F) new-group)
+      (all-true (blockOk F (newState F R S)) (blockCount F) (λ b l. ap (wellFormed (kindOf F b) (parametersOf F b)) (new-cell b l) ∙ new-block b l))
+
+  -- each block's step
+  pub new-stepped : (b : ℕ) → b < blockCount F → newBlock F R S b ≡ blockStep F R (phase F R S) b (cell F S b) (wordsRead F R S b)
+  unfolding newBlock net wordsRead
+  new-stepped b l = fixed (net F R (phase F R S)) (orderOf F) (cell F S) (blockCount F) b (g .orderBelow b l)
+
+  -- and nothing else meets the equation of the steps
+  pub new-only :
+      (new : ℕ → List ℕ) →
+      ((b : ℕ) → b < blockCount F → new b ≡ blockStep F R (phase F R S) b (cell F S b) (words (wires F R) (seen (orderOf F) (cell F S) new b) b)) →
+      (b : ℕ) → b < blockCount F → new b ≡ newBlock F R S b
+  unfolding newBlock net wires
+  new-only new h b l =
+      unique (λ b. b < blockCount F) (net F R (phase F R S)) (orderOf F) (cell F S) new (λ b p a q l x. from-output g b p a q l x .exists) h (blockCount F) b l
+      (g .orderBelow b l)
+
+-- ---- the findings in their buffer
+
+module _ (w : ℕ) (hit : ℕ → Bool) (f : ℕ → List ℕ) (long : (b : ℕ) → length (f b) ≡ w) where
+  entries-length : (n : ℕ) → length (entries n hit f) ≡ w * hits n hit
+  unfolding entries hits
+  entries-length zero = sym (mul-zero w)
+  entries-length (suc n) = length-append (entries n hit f) (cond (hit n) (f n) []) ∙ go (entries-length n) (hit n)
+    where
+      go : length (entries n hit f) ≡ w * hits n hit → (t : Bool) → length (entries n hit f) + length (cond t (f n) []) ≡ w * (hits n hit + cond t 1 0)
+      go e true = omega (arith, e, long n, mul-suc w (hits n hit), ap (λ (k : ℕ). w * k) (add-one (hits n hit)))
+      go e false = omega (arith, e, ap (λ (k : ℕ). w * k) (add-zero (hits n hit)))
+
+  -- the entries from that of place b on
+  record From (n b : ℕ) : Type 0 where
+    rest : List ℕ
+    parts : entries n hit f ≡ entries b hit f ++ (f b ++ rest)
+
+  entries-from : (n b : ℕ) → b < n → hit b ≡ true → From n b
+  unfolding entries
+  entries-from zero b l h = absurd (not-suc-le-zero l)
+  entries-from (suc n) b l h = go (λ q. entries-from n b q h) (ℕ-discrete b n)
+    where
+      go : (b < n → From n b) → Dec (b ≡ n) → From (suc n) b
+      go r (yes e) = record {
+        rest = [];
+        parts =
+            ap (λ (k : ℕ). entries k hit f ++ cond (hit k) (f k) []) (sym e) ∙ ap (λ (t : Bool). entries b hit f ++ cond t (f b) []) h
+            ∙ ap (λ (t : List ℕ). entries b hit f ++ t) (sym (append-nil (f b)));
+      }
+      go r (no e) =
+          let c = r (omega (arith, e)) in
+          let last = cond (hit n) (f n) [] in
+          record {
+            rest = c .rest ++ last;
+            parts =
+                ap (λ (t : List ℕ). t ++ last) (c .parts) ∙ append-assoc (entries b hit f) (f b ++ c .rest) last
+                ∙ ap (λ (t : List ℕ). entries b hit f ++ t) (append-assoc (f b) (c .rest) last);
+          }
+
+  -- the entry of a place that is hit stands after those of the places before it
+  packed-at : (size n b : ℕ) → b < n → hit b ≡ true → slot 0 w (hits b hit) (packed size n hit f) ≡ f b
+  unfolding packed
+  packed-at size n b l h =
+      slot-past 0 w (hits b hit) (packed size n hit f)
+      ∙ ap (λ (t : List ℕ). take w (drop (w * hits b hit) t)) whole
+      ∙ ap (take w) (drop-at (entries b hit f) (f b ++ (c .rest ++ zeros)) (w * hits b hit) (entries-length b))
+      ∙ take-at (f b) (c .rest ++ zeros) w (long b)
+    where
+      c : From n b
+      c = entries-from n b l h
+
+      zeros : List ℕ
+      zeros = replicate (size - length (entries n hit f)) 0
+
+      whole : packed size n hit f ≡ entries b hit f ++ (f b ++ (c .rest ++ zeros))
+      whole =
+          ap (λ (t : List ℕ). t ++ zeros) (c .parts) ∙ append-assoc (entries b hit f) (f b ++ c .rest) zeros
+          ∙ ap (λ (t : List ℕ). entries b hit f ++ t) (append-assoc (f b) (c .rest) zeros)
+
+  -- past the entries there are zeros
+  packed-past : (size n i : ℕ) → w * hits n hit ≤ i → byteAt (packed size n hit f) i ≡ 0
+  unfolding packed
+  packed-past size n i l =
+      let m = size - length (entries n hit f) in
+      let j = i - length (entries n hit f) in
+      let at : i ≡ length (entries n hit f) + j = omega (arith, entries-length n) in
+      ap (byteAt (packed size n hit f)) at ∙ getD-append-add (entries n hit f) (replicate m 0) j 0 ∙ zero-at m j
+    where
+      zero-at : (m j : ℕ) → byteAt (replicate m 0) j ≡ 0
+      zero-at m j = go (decLt j m)
+        where
+          go : Dec (j < m) → byteAt (replicate m 0) j ≡ 0
+          go (yes q) = getD-replicate m j 0 0 q
+          go (no q) = List·getD-eq-default (replicate m 0) 0 (omega (arith, q, length-replicate {A = ℕ} m 0))
+
+-- ---- an accepted call
+
+module _ (F R : List ℕ) (L : Lent) where
+  -- what an accepted call has passed
+  record Passed : Type 0 where
+    file : verdict F ≡ Accepted
+    state : stateOk F (L .state) ≡ true
+
+  later-zero : (n later : ℕ) → orLater n later ≡ 0 → (n ≡ 0) × (later ≡ 0)
+  later-zero zero later e = (refl, e)
+  later-zero (suc n) later e = absurd (omega arith)
+
+  second : (a b c : Bool) → unless a 10 (unless b 11 (unless c 12 0)) ≡ 0 → b ≡ true
+  second true true c e = refl
+  second true false c e = absurd (omega arith)
+  second false b c e = absurd (omega arith)
+
+  passed : refusal F R L ≡ 0 → Passed
+  unfolding refusal refusalAfter9
+  passed e =
+      let h = later-zero (numberOf (verdict F)) (refusalAfter9 F R L) e in
+      record { file = number-zero (verdict F) (h .0); state = second (sizesOk F L) (stateOk F (L .state)) (recordOk F R) (h .1) }
+
+  -- an answer that carries a count is no refusal
+  isCount : Answer → Bool
+  isCount (Findings k) = true
+  isCount (Refused n) = false
+
+  countIn : Answer → ℕ
+  countIn (Findings k) = k
+  countIn (Refused n) = 0
+
+  not-refused : (k : ℕ) → cycleOf F R L .answer ≡ Findings k → refusal F R L ≡ 0
+  unfolding isCount
+  not-refused k e = go (refusal F R L) refl
+    where
+      go : (n : ℕ) → refusal F R L ≡ n → refusal F R L ≡ 0
+      go zero z = z
+      go (suc n) z = absurd (true≢false (sym (ap isCount (sym (ap (λ (l : Left). l .answer) (call-refused F R L (suc n) z (λ q. omega arith))) ∙ e))))
+
+  cycled : (k : ℕ) → cycleOf F R L .answer ≡ Findings k → Cycled F R L (L .state) k
+  unfolding findingCount newFindings finding findingFor wordsRead countIn
+  cycled k e = record {
+    state = ap (λ (l : Left). l .lent .state) done;
+    outputs = ap (λ (l : Left). l .lent .outputs) done;
+    findings = ap (λ (l : Left). l .lent .findings) done;
+    counted = counted;
+    stepped = new-stepped F R (L .state) good (p .state);
+    read = λ b. refl;
+    only = new-only F R S good (p .state);
+    found = λ b l h.
+        ap (λ (t : Left). slot 0 16 (hits b (enters F R S)) (t .lent .findings)) done
+        ∙ packed-at 16 (enters F R S) (finding F R S) (λ b. finding-length F b _ _) (16 * blockCount F) (blockCount F) b l h;
+    unused = λ i l.
+        ap (λ (t : Left). byteAt (t .lent .findings) i) done
+        ∙ packed-past 16 (enters F R S) (finding F R S) (λ b. finding-length F b _ _) (16 * blockCount F) (blockCount F) i (rw counted at l);
+    formed = ap (λ (l : Left). stateOk F (l .lent .state)) done ∙ new-formed F R (L .state) good (p .state);
+  }
+    where
+      zero-number : refusal F R L ≡ 0
+      zero-number = not-refused k e
+
+      done : cycleOf F R L ≡ record {
+        answer = Findings (findingCount F R (L .state));
+        lent = record { state = newState F R (L .state); outputs = newOutputs F R (L .state); findings = newFindings F R (L .state) };
+      }
+      done = call-done F R L zero-number
+
+      S : List ℕ
+      S = L .state
+
+      counted : k ≡ hits (blockCount F) (enters F R (L .state))
+      counted = ap countIn (sym e ∙ ap (λ (l : Left). l .answer) done)
+
+      p : Passed
+      p = passed zero-number
+
+      good : Good F
+      good = accepted F (p .file)
+
+pub demand2 : Demand2
+demand2 = record { cycles = cycled; fresh = fresh-state-ok }
