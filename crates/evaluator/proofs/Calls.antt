@@ -1,6 +1,6 @@
 -- What a cycle call answers, by the first test that fails. Assumes nothing.
-use mathlib.Core.Path.{_≡_, refl, sym, ap, _∙_}
-use mathlib.Core.Bool.{Bool, true, false, cond, _&&_}
+use mathlib.Core.Path.{_≡_, refl}
+use mathlib.Core.Bool.{true, false, _&&_}
 use mathlib.Core.Logic.{_≢_}
 use mathlib.Core.List.{List}
 use Prim.Native.Nat.{ℕ, zero, suc}
@@ -14,10 +14,9 @@ use Rattle.casefile.specs.declared.Verdict.{Verdict}
 use Rattle.casefile.specs.declared.Verdict.the-variants.{Accepted, BadSize, BadContents, BadGroups, BadInputs, BadBlocks, BadOrder, BadLinks, BadOutputs, BadTrace}
 use Rattle.casefile.specs.Layout.{layoutOf}
 use Rattle.casefile.specs.Refusal.{verdict, numberOf}
-use Rattle.evaluator.specs.declared.Answer.{Answer}
 use Rattle.evaluator.specs.declared.Answer.the-variants.{Findings, Refused}
 use Rattle.evaluator.specs.Cycle.{newState, newOutputs, newFindings, findingCount}
-use Rattle.evaluator.specs.Answer.{Lent, Left, lends, sizesOk, sizesFit, stateOk, recordOk, unless, orLater, refusalAfter9, refusal, leaves, cycleOf, stateLength, outputsLength, findingsLength}
+use Rattle.evaluator.specs.Answer.{Lent, sizesOk, sizesFit, stateOk, recordOk, refusalAfter9, refusal, cycleOf, stateLength, outputsLength, findingsLength}
 use Rattle.evaluator.specs.Fits.{Admitted}
 
 -- the number 0 is that of an accepted file alone

@@ -12,11 +12,9 @@ use Rattle.wire.specs.Places.{all}
 use Rattle.wire.proofs.Places.{all-each, all-true, both-left}
 use Rattle.wire.proofs.Records.{lt-or-gt, slot-gather, gather-same, length-gather}
 use Rattle.casefile.specs.declared.Layout.{Layout}
-use Rattle.casefile.specs.declared.Verdict.the-variants.{Accepted}
-use Rattle.casefile.specs.Layout.{bodyG, bodyB, bodyO, bodyStart, groupCount, blockCount, outputCount, kindOf, groupOf, orderOf, parametersOf, outputBlock, outputPort, layoutOf}
-use Rattle.casefile.specs.Refusal.{verdict}
+use Rattle.casefile.specs.Layout.{bodyG, bodyB, bodyO, bodyStart, groupCount, blockCount, outputCount, kindOf, orderOf, parametersOf, outputBlock, outputPort, layoutOf}
 use Rattle.casefile.proofs.Accepted.{Good, accepted, from-output, block-at-lt, block-at-is}
-use Rattle.evaluator.specs.Groups.{controlByte, isErrAck, cell, isHeld, isAcknowledged, hasError, isPending, groupNext, newGroup, phase}
+use Rattle.evaluator.specs.Groups.{controlByte, isErrAck, cell, isHeld, isAcknowledged, hasError, isPending, groupNext, newGroup}
 use Rattle.evaluator.specs.Packed.{hits, packed}
 use Rattle.evaluator.specs.Cycle.{portShows, newBlock, newState, outputWord, newOutputs, newFindings, findingCount}
 use Rattle.evaluator.specs.Answer.{stateLength, outputsLength, findingsLength, groupFormed, groupOk, blockOk, stateOk}

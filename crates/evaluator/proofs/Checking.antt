@@ -12,7 +12,7 @@ use Rattle.wire.specs.Records.{slot}
 use Rattle.casefile.specs.declared.Layout.{Layout}
 use Rattle.casefile.specs.declared.Verdict.{Verdict}
 use Rattle.casefile.specs.declared.Verdict.the-variants.{Accepted, BadSize, BadContents, BadGroups, BadInputs, BadBlocks, BadOrder, BadLinks, BadOutputs, BadTrace}
-use Rattle.casefile.specs.Layout.{device, runAt, inputTypeIn, kindIn, parametersIn, recordSize, layoutOf}
+use Rattle.casefile.specs.Layout.{runAt, inputTypeIn, kindIn, parametersIn, recordSize, layoutOf}
 use Rattle.casefile.specs.Refusal.{verdict, numberOf}
 use Rattle.casefile.proofs.Placed.{is-device, is-groups, is-inputs, is-blocks, is-outputs, is-run, is-input}
 use Rattle.casefile.proofs.Accepted.{accepted}

@@ -1,34 +1,33 @@
 -- One cycle of an accepted project as the code runs it, and as the definitions say it: the groups decide first, then the blocks run in a state whose group
 -- bytes are new already, in the phases that a list has. Assumes nothing.
-use mathlib.Core.Path.{_≡_, refl, sym, ap, ap₂, _∙_, subst}
-use mathlib.Core.Bool.{Bool, true, false, not, cond, _&&_, _||_, true≢false}
+use mathlib.Core.Path.{_≡_, refl, sym, ap, ap₂, _∙_}
+use mathlib.Core.Bool.{Bool, true, false, not, cond, _&&_, true≢false}
 use mathlib.Core.Logic.{_≢_}
 use mathlib.Core.List.{List, [], _∷_, _++_}
-use Prim.Native.Nat.{ℕ, zero, suc, _+_, _*_, _/_, _%_, _≤_, _<_}
-use native.Mathlib.Nat.{zero-add, add-comm, mul-zero, mul-suc}
+use Prim.Native.Nat.{ℕ, zero, suc, _+_, _*_, _<_}
+use native.Mathlib.Nat.{add-comm, mul-zero, mul-suc}
 use native.Mathlib.Omega.{arith}
 use lib.Dec.{eqb, ltb}
 use lib.ListN.{length, take, drop, replicate, replicate-append-replicate}
 use lib.Seq.{take-at, drop-at}
-use borrow.Author.Tests.{eqb-true, eqb-false, eq-eqb, ne-eqb, not-true, not-false}
-use Rattle.wire.specs.Words.{byteAt, le16}
-use Rattle.wire.specs.Records.{slot, gather}
+use borrow.Author.Tests.{eqb-true, ne-eqb}
+use Rattle.wire.specs.Words.{byteAt}
+use Rattle.wire.specs.Records.{gather}
 use Rattle.wire.specs.Places.{all}
 use Rattle.wire.proofs.Endian.{bytes-word2}
 use Rattle.wire.proofs.Places.{all-each, both-left, both-right}
 use Rattle.wire.proofs.Records.{slot-past, gather-at, gather-same, length-gather}
 use Rattle.kind.specs.Kinds.{isArithmetic}
-use Rattle.kind.specs.Parameters.{parametersOk}
 use Rattle.casefile.specs.declared.Source.the-variants.{Output}
 use Rattle.casefile.specs.Layout.{groupCount, blockCount, kindOf, groupOf, orderOf, parametersOf, linkOf}
 use Rattle.casefile.proofs.Accepted.{Good, from-output}
-use Rattle.block.specs.State.{ERROR, decode, encode, wellFormed, stateOk, decoupleOk, twohandOk, twohandDiagnosis, twohandBits, arithmeticOk}
+use Rattle.block.specs.State.{decode, encode, wellFormed, stateOk, decoupleOk, twohandOk, twohandDiagnosis, twohandBits, arithmeticOk}
 use Rattle.block.specs.Finding.{findingBytes}
 use Rattle.block.specs.declared.BlockState.{BlockState}
-use Rattle.block.proofs.Kept.{step-keeps, step-good, state-of}
+use Rattle.block.proofs.Kept.{step-keeps, state-of}
 use Rattle.block.proofs.Bytes.{encode-length}
-use Rattle.evaluator.specs.Net.{Wires, Net, words, seen, turn, after}
-use Rattle.evaluator.specs.Groups.{cell, codeOf, newGroup, phase, controlByte, isErrAck, elapsed}
+use Rattle.evaluator.specs.Net.{words, seen}
+use Rattle.evaluator.specs.Groups.{cell, codeOf, newGroup, phase}
 use Rattle.evaluator.specs.Packed.{hits, packed}
 use Rattle.evaluator.specs.Cycle.{wires, net, blockStep, newBlock, wordsRead, newState, entersFrom, enters, findingFor, finding, findingCount, newFindings}
 use Rattle.evaluator.specs.Answer as answer

@@ -1,24 +1,24 @@
 -- What the loops over the blocks and over the groups keep: the marks of groups with a block in ERROR, and the groups' new bytes and phases.
 -- Assumes nothing.
-use mathlib.Core.Path.{_≡_, refl, sym, ap, ap₂, _∙_, subst}
+use mathlib.Core.Path.{_≡_, refl, sym, ap, ap₂, _∙_}
 use mathlib.Core.Bool.{Bool, true, false, not, _&&_}
 use mathlib.Core.Logic.{_≢_}
 use mathlib.Core.List.{List, [], _∷_, _++_}
-use Prim.Native.Nat.{ℕ, zero, suc, _+_, _-_, _*_, _≤_, _<_, suc-le-suc}
-use native.Mathlib.Nat.{not-suc-le-zero, le-of-suc-le-suc, zero-lt-suc}
+use Prim.Native.Nat.{ℕ, zero, suc, _+_, _-_, _≤_, _<_}
+use native.Mathlib.Nat.{not-suc-le-zero, le-of-suc-le-suc}
 use native.Mathlib.Decide.{ℕ-discrete, decLt}
 use native.Mathlib.Omega.{arith}
 use lib.Dec.{eqb}
-use lib.ListN.{length, getD, set, drop, replicate, length-set, length-append, length-drop, length-replicate, getD-replicate, List·getD-append}
+use lib.ListN.{length, getD, set, drop, replicate, length-set, length-append, length-drop, getD-replicate, List·getD-append}
 use lib.Seq.{getD-set-same, getD-set-other, getD-append-add, getD-drop, ext-getD}
 use borrow.Author.Tests.{eq-eqb, ne-eqb}
 use Rattle.wire.specs.Words.{byteAt}
 use Rattle.wire.specs.Records.{gather}
 use Rattle.wire.specs.Places.{all}
 use Rattle.wire.proofs.Places.{all-more, all-true}
-use Rattle.casefile.specs.Layout.{groupOf, blockCount, runLinked}
+use Rattle.casefile.specs.Layout.{groupOf, blockCount}
 use Rattle.block.specs.Step.{onlyIf}
-use Rattle.evaluator.specs.Groups.{controlByte, isErrAck, cell, codeOf, erredIn, hasError, isPending, groupNext, phaseFrom, runsWith, newGroup, phase}
+use Rattle.evaluator.specs.Groups.{controlByte, isErrAck, cell, codeOf, erredIn, hasError, isPending, groupNext, newGroup, phase}
 use Rattle.evaluator.specs.Fits.{errorList, Decided}
 
 -- ---- a list of n numbers

@@ -1,96 +1,39 @@
 -- Demand 2: an accepted cycle leaves exactly what the definitions say. The buffers and the count are the call's definition; each block's step is the fixed point of
 -- the cycle (`fixed`); the state that is left is well formed, since a step keeps a block so and a group's byte becomes 0, 1, 3 or stays. Assumes nothing.
 use mathlib.Core.Path.{_≡_, refl, sym, ap, _∙_}
-use mathlib.Core.Bool.{Bool, true, false, cond, not, _&&_, true≢false}
-use mathlib.Core.List.{List, [], _∷_, _++_, append-assoc, append-nil}
+use mathlib.Core.Bool.{Bool, true, false, cond, true≢false}
+use mathlib.Core.List.{List, [], _++_, append-assoc, append-nil}
 use Prim.Native.Nat.{ℕ, zero, suc, _+_, _-_, _*_, _≤_, _<_}
 use native.Mathlib.Nat.{not-suc-le-zero, mul-zero, mul-suc, add-zero}
 use native.Mathlib.Numerals.{add-one}
 use native.Mathlib.Decide.{ℕ-discrete, decLt}
 use native.Mathlib.Omega.{arith}
-use lib.ListN.{length, take, drop, replicate, length-append, length-replicate, getD-replicate, List·getD-append, List·getD-eq-default}
+use lib.ListN.{length, take, drop, replicate, length-append, length-replicate, getD-replicate, List·getD-eq-default}
 use lib.Seq.{take-at, drop-at, getD-append-add}
 use Rattle.wire.specs.Words.{byteAt}
-use Rattle.wire.specs.Records.{slot, gather}
-use Rattle.wire.specs.Places.{all}
-use Rattle.wire.proofs.Places.{all-each, all-true, both-left, both-right}
-use Rattle.wire.proofs.Records.{slot-past, slot-gather}
+use Rattle.wire.specs.Records.{slot}
+use Rattle.wire.proofs.Records.{slot-past}
 use Rattle.casefile.specs.declared.Verdict.the-variants.{Accepted}
-use Rattle.casefile.specs.Layout.{groupCount, blockCount, orderOf, kindOf, parametersOf}
+use Rattle.casefile.specs.Layout.{blockCount, orderOf}
 use Rattle.casefile.specs.Refusal.{verdict, numberOf}
 use Rattle.casefile.proofs.Accepted.{Good, accepted, from-output}
-use Rattle.block.specs.State.{wellFormed}
-use Rattle.block.proofs.Bits.{both}
-use Rattle.block.proofs.Kept.{step-keeps}
 use Rattle.evaluator.specs.declared.Answer.{Answer}
 use Rattle.evaluator.specs.declared.Answer.the-variants.{Findings, Refused}
 use Rattle.evaluator.specs.Net.{words, seen}
-use Rattle.evaluator.specs.Groups.{cell, phase, groupNext, isHeld, isAcknowledged, newGroup, controlByte, isErrAck, isPending, hasError}
+use Rattle.evaluator.specs.Groups.{cell, phase}
 use Rattle.evaluator.specs.Packed.{entries, hits, packed}
 use Rattle.evaluator.specs.Cycle.{net, blockStep, wires, newBlock, wordsRead, newState, newOutputs, newFindings, enters, findingFor, finding, findingCount}
-use Rattle.evaluator.specs.Answer.{Lent, Left, stateOk, sizesOk, recordOk, groupFormed, groupOk, blockOk, unless, orLater, refusalAfter9, refusal, cycleOf}
+use Rattle.evaluator.specs.Answer.{Lent, Left, stateOk, sizesOk, recordOk, unless, orLater, refusalAfter9, refusal, cycleOf}
 use Rattle.evaluator.specs.Demands.{Cycled, Demand2}
-use Rattle.evaluator.proofs.Agree.{fixed, unique, keeps}
-use Rattle.evaluator.proofs.Deciding.{row-length, row-at}
+use Rattle.evaluator.proofs.Agree.{fixed, unique}
+use Rattle.evaluator.proofs.Checked.{new-formed}
 use Rattle.evaluator.proofs.Calls.{number-zero, call-refused, call-done}
-use Rattle.evaluator.proofs.Cycles.{block-length}
 use Rattle.evaluator.proofs.Running.{finding-length}
 use Rattle.evaluator.proofs.FreshFormed.{fresh-state-ok}
 
--- ---- the state that is left is well formed
+-- ---- the blocks' new bytes
 
--- 01, "One cycle", 1 to 3: a group's byte stays 0, 1 or 3
-group-kept : (pending ack : Bool) (old : ℕ) → groupFormed old ≡ true → groupFormed (groupNext pending ack old) ≡ true
-unfolding groupNext
-group-kept true ack old h = refl
-group-kept false ack old h = next (isHeld old && ack) (isHeld old && isAcknowledged old && not ack)
-  where
-    next : (a b : Bool) → groupFormed (cond a 3 (cond b 0 old)) ≡ true
-    next true b = refl
-    next false true = refl
-    next false false = h
-
-module _ (F R S : List ℕ) (g : Good F) (formed : stateOk F S ≡ true) where
-  groups-formed : all (groupOk S) (groupCount F) ≡ true
-  unfolding stateOk
-  groups-formed = both-left (all (groupOk S) (groupCount F)) (all (blockOk F S) (blockCount F)) formed
-
-  blocks-formed : all (blockOk F S) (blockCount F) ≡ true
-  unfolding stateOk
-  blocks-formed = both-right (all (groupOk S) (groupCount F)) (all (blockOk F S) (blockCount F)) formed
-
-  new-head : (k : ℕ) → k < groupCount F → byteAt (newState F R S) k ≡ newGroup F R S k
-  unfolding newState
-  new-head k l =
-      List·getD-append (gather (groupCount F) (λ k. newGroup F R S k ∷ [])) (gather (blockCount F) (newBlock F R S)) 0 k
-      (rw (row-length (groupCount F) (newGroup F R S)) l)
-      ∙ row-at (groupCount F) (newGroup F R S) k l
-
-  new-cell : (b : ℕ) → b < blockCount F → cell F (newState F R S) b ≡ newBlock F R S b
-  unfolding cell newState
-  new-cell b q =
-      slot-gather (groupCount F) 16 (blockCount F) (gather (groupCount F) (λ k. newGroup F R S k ∷ [])) (newBlock F R S) (row-length (groupCount F) (newGroup F R S))
-      (λ k p. block-length F R S g k p) b q
-
-  new-group : (k : ℕ) → k < groupCount F → groupOk (newState F R S) k ≡ true
-  unfolding newGroup
-  new-group k l =
-      ap groupFormed (new-head k l)
-      ∙ group-kept (isPending (controlByte R k) (hasError F S k)) (isErrAck (controlByte R k)) (byteAt S k) (all-each (groupOk S) (groupCount F) groups-formed k l)
-
-  new-block : (b : ℕ) → b < blockCount F → wellFormed (kindOf F b) (parametersOf F b) (newBlock F R S b) ≡ true
-  unfolding newBlock net blockStep blockOk
-  new-block b l =
-      keeps (λ b s. b < blockCount F → wellFormed (kindOf F b) (parametersOf F b) s ≡ true) (net F R (phase F R S)) (orderOf F) (cell F S)
-      (λ b s f h q. step-keeps (kindOf F b) (parametersOf F b) _ _ _ _ _ s (g .block b q .parameters) (h q))
-      (blockCount F) b (λ q. all-each (blockOk F S) (blockCount F) blocks-formed b q) l
-
-  pub new-formed : stateOk F (newState F R S) ≡ true
-  unfolding stateOk blockOk
-  new-formed =
-      both (all-true (groupOk (newState F R S)) (groupCount F) new-group)
-      (all-true (blockOk F (newState F R S)) (blockCount F) (λ b l. ap (wellFormed (kindOf F b) (parametersOf F b)) (new-cell b l) ∙ new-block b l))
-
+module _ (F R S : List ℕ) (g : Good F) where
   -- each block's step
   pub new-stepped : (b : ℕ) → b < blockCount F → newBlock F R S b ≡ blockStep F R (phase F R S) b (cell F S b) (wordsRead F R S b)
   unfolding newBlock net wordsRead
@@ -228,9 +171,9 @@ module _ (F R : List ℕ) (L : Lent) where
     outputs = ap (λ (l : Left). l .lent .outputs) done;
     findings = ap (λ (l : Left). l .lent .findings) done;
     counted = counted;
-    stepped = new-stepped F R (L .state) good (p .state);
+    stepped = new-stepped F R (L .state) good;
     read = λ b. refl;
-    only = new-only F R S good (p .state);
+    only = new-only F R S good;
     found = λ b l h.
         ap (λ (t : Left). slot 0 16 (hits b (enters F R S)) (t .lent .findings)) done
         ∙ packed-at 16 (enters F R S) (finding F R S) (λ b. finding-length F b _ _) (16 * blockCount F) (blockCount F) b l h;

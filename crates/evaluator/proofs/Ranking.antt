@@ -1,6 +1,5 @@
 -- The blocks by execution number: after block b each of the first b + 1 blocks stands at its number. Assumes nothing.
 use mathlib.Core.Path.{_≡_, refl, sym, ap, _∙_}
-use mathlib.Core.Logic.{_≢_}
 use mathlib.Core.List.{List}
 use Prim.Native.Nat.{ℕ, _+_, _%_, _≤_, _<_}
 use native.Mathlib.Nat.{not-suc-le-zero, mod-eq-of-lt}

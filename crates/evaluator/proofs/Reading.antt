@@ -1,18 +1,16 @@
 -- What the code reads of the file, the record and the state, said by the definitions of a cycle. Assumes nothing.
-use mathlib.Core.Path.{_≡_, refl, sym, ap, ap₂, _∙_}
+use mathlib.Core.Path.{_≡_, sym, ap, ap₂, _∙_}
 use mathlib.Core.List.{List}
 use Prim.Native.Nat.{ℕ, zero, suc, _+_, _-_, _*_, _%_, _^_, _≤_, _<_}
 use native.Mathlib.Nat.{mod-eq-of-lt}
-use native.Mathlib.Numerals.{add-one, sub-one}
 use native.Mathlib.Omega.{arith}
 use lib.ListN.{take, drop}
 use lib.Pow.{pow-mono}
 use Rattle.wire.specs.Words.{le32}
 use Rattle.wire.specs.Records.{slot}
-use Rattle.casefile.specs.declared.Source.{Source}
-use Rattle.casefile.specs.declared.Source.the-variants.{Nothing, External, Output}
-use Rattle.casefile.specs.Layout.{bodyB, bodyStart, groupCount, blockRecord, kindIn, blockSize}
-use Rattle.block.specs.State.{decode, stateSize}
+use Rattle.casefile.specs.declared.Source.the-variants.{External, Output}
+use Rattle.casefile.specs.Layout.{bodyB, bodyStart, blockRecord, kindIn}
+use Rattle.block.specs.State.{decode}
 use Rattle.block.specs.Inputs.{bitsFrom}
 use Rattle.block.specs.Shows.{shows}
 use Rattle.block.specs.declared.BlockState.{BlockState}

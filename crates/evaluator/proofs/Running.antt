@@ -1,10 +1,10 @@
 -- What the loop over the execution numbers keeps, and what it comes to: the state and the findings by block number stand at one stage.
 -- Assumes nothing.
 use mathlib.Core.Path.{_≡_, refl, sym, ap, ap₂, _∙_, subst}
-use mathlib.Core.Bool.{Bool, true, false, cond, true≢false}
+use mathlib.Core.Bool.{Bool, true, false, cond}
 use mathlib.Core.Logic.{_≢_}
 use mathlib.Core.List.{List, _++_}
-use Prim.Native.Nat.{ℕ, zero, suc, _+_, _*_, _≤_, _<_}
+use Prim.Native.Nat.{ℕ, _+_, _*_, _≤_, _<_}
 use native.Mathlib.Nat.{zero-add}
 use native.Mathlib.Decide.{ℕ-discrete}
 use native.Mathlib.Omega.{arith}
@@ -14,14 +14,13 @@ use Rattle.wire.specs.Words.{byteAt}
 use Rattle.wire.specs.Records.{slot, gather}
 use Rattle.wire.proofs.Records.{apart, slot-getD, length-slot, head-put}
 use Rattle.casefile.specs.declared.Source.the-variants.{Output}
-use Rattle.casefile.specs.Layout.{groupOf, orderOf, linkOf, blockCount, groupCount}
-use Rattle.block.specs.State.{encode}
+use Rattle.casefile.specs.Layout.{orderOf, blockCount}
 use Rattle.block.specs.Finding.{findingBytes}
 use Rattle.block.proofs.Bytes.{encode-length}
-use Rattle.evaluator.specs.Net.{words, seen, turn, after}
+use Rattle.evaluator.specs.Net.{words, seen, after}
 use Rattle.evaluator.specs.Groups.{cell}
 use Rattle.evaluator.specs.Cycle.{wires, net, blockStep, entersFrom, findingFor}
-use Rattle.evaluator.specs.Fits.{Placed, Running, phaseAt, turned, entering, noted, ranWith, entersWith, foundWith, slotWith}
+use Rattle.evaluator.specs.Fits.{Running, phaseAt, turned, entering, noted, ranWith, entersWith, foundWith, slotWith}
 use Rattle.evaluator.proofs.Agree.{fixed}
 use Rattle.evaluator.proofs.Stage.{stage, stage-words, stage-old, stage-turn}
 use Rattle.evaluator.proofs.Buffers.{Staged, staged-start, staged-put, staged-keep, staged-end}

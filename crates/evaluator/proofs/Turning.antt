@@ -9,7 +9,7 @@ use lib.ListN.{take, drop}
 use lib.Seq.{sets}
 use Rattle.wire.specs.Words.{byteAt, le16}
 use Rattle.wire.proofs.Endian.{bytes-word2}
-use Rattle.casefile.specs.Layout.{groupOf, kindIn, groupIn, kindOf, parametersIn, parametersOf, blockRecord}
+use Rattle.casefile.specs.Layout.{kindIn, groupIn, kindOf, parametersIn, parametersOf, blockRecord}
 use Rattle.block.specs.State.{STOP, RESET, plain, inError, decode, encode}
 use Rattle.block.specs.Inputs.{firstRead, secondRead}
 use lib.Dec.{eqb}
@@ -18,7 +18,7 @@ use Rattle.block.proofs.Steps.{blind, reads-not}
 use Rattle.block.specs.Finding.{findingBytes}
 use Rattle.block.specs.declared.BlockState.{BlockState}
 use Rattle.evaluator.specs.Net.{words}
-use Rattle.evaluator.specs.Groups.{cell, codeOf, controlByte, isErrAck, elapsed}
+use Rattle.evaluator.specs.Groups.{cell, codeOf}
 use Rattle.evaluator.specs.Cycle.{wires, blockStep, entersCode, entersFrom, findingFor}
 use Rattle.evaluator.specs.Fits.{Placed, Turning, wordsOf, turned, entering, noted}
 use Rattle.evaluator.proofs.Reading.{cell-is}

@@ -4,7 +4,7 @@ ghost use Prim.Native.Nat.{_+_, _*_, _≤_};
 ghost use lib.ListN.{length, take, drop, replicate};
 ghost use lib.Seq.{sets};
 ghost use Rattle.evaluator.specs.Packed.{hits, packed};
-ghost use Rattle.evaluator.specs.Fits.{isFinding, noteIn, isNoted, Noted};
+ghost use Rattle.evaluator.specs.Fits.{noteIn, isNoted, Noted};
 
 // Whether the record of block b holds a finding: its diagnosis is not 0.
 fn is_noted(findings: &[u8], b: usize) -> bool

@@ -1,13 +1,11 @@
 // The groups: which have a block in ERROR, their bytes after the cycle, and their phases in it.
 ghost use mathlib.Core.Path.{_≡_};
-ghost use mathlib.Core.Bool.{cond};
 ghost use mathlib.Core.List.{_∷_, [], _++_};
-ghost use Prim.Native.Nat.{ℕ, _+_, _*_, _≤_, _<_};
+ghost use Prim.Native.Nat.{_+_, _*_, _≤_, _<_};
 ghost use lib.ListN.{length, drop};
-ghost use Rattle.wire.specs.Words.{byteAt};
 ghost use Rattle.wire.specs.Records.{gather};
-ghost use Rattle.casefile.specs.Layout.{bodyG, bodyStart, groupOf, blockCount};
-ghost use Rattle.evaluator.specs.Groups.{isHeld, isAcknowledged, isPending, groupNext, phaseFrom, runsWith, newGroup, phase};
+ghost use Rattle.casefile.specs.Layout.{bodyG, bodyStart};
+ghost use Rattle.evaluator.specs.Groups.{isHeld, isAcknowledged, isPending, groupNext, phaseFrom, runsWith, newGroup};
 ghost use Rattle.evaluator.specs.Fits.{Placed, errorList, Grouped, Decided};
 
 // A byte for each of eight groups: 1 where a block of the group is in ERROR.

@@ -1,6 +1,5 @@
 // The blocks by execution number.
-ghost use mathlib.Core.Path.{_≡_};
-ghost use Prim.Native.Nat.{ℕ, _<_};
+ghost use Prim.Native.Nat.{_<_};
 ghost use Rattle.evaluator.specs.Fits.{Ordered, Ranked};
 
 // The number of the block with the execution number e, at place e, for the n blocks.

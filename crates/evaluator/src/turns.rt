@@ -7,7 +7,7 @@ ghost use lib.ListN.{take};
 ghost use lib.Seq.{sets};
 ghost use Rattle.wire.specs.Words.{byteAt};
 ghost use Rattle.wire.specs.Records.{gather};
-ghost use Rattle.casefile.specs.Layout.{bodyB, bodyStart, blockRecord, groupCount, linkIn, parametersIn};
+ghost use Rattle.casefile.specs.Layout.{parametersIn};
 ghost use Rattle.block.specs.Inputs.{bitsFrom, firstRead, secondRead};
 ghost use Rattle.evaluator.specs.Net.{reads};
 ghost use Rattle.evaluator.specs.Groups.{cell, isErrAck};

@@ -1,17 +1,15 @@
 -- `evaluator::cycle` meets its contract: at each `return` the tests that led there give the number, and where none failed the cycle was run (`Calls`).
-use mathlib.Core.Path.{_≡_, refl, sym, ap, _∙_}
-use mathlib.Core.Bool.{Bool, true}
-use Prim.Native.Nat.{ℕ}
+use mathlib.Core.Path.{_≡_, sym, ap, _∙_}
+use mathlib.Core.Bool.{true}
 use native.Mathlib.Omega.{arith}
 use borrow.Author.Needs.{needs}
-use lib.ListN.{length}
 use denote.Ref.{now}
 use Rattle.wire.proofs.Places.{ok, bad}
 use Rattle.casefile.specs.declared.Verdict.the-variants.{Accepted}
 use Rattle.casefile.specs.Layout.{layoutOf}
 use Rattle.casefile.specs.Refusal.{verdict, numberOf}
-use Rattle.evaluator.specs.declared.Answer.the-variants.{Findings, Refused}
-use Rattle.evaluator.specs.Answer.{Lent, Left, lends, sizesOk, stateOk, cycleOf}
+use Rattle.evaluator.specs.declared.Answer.the-variants.{Findings}
+use Rattle.evaluator.specs.Answer.{Lent, Left, lends, sizesOk, stateOk}
 use Rattle.evaluator.specs.Fits.{Admitted}
 use Rattle.evaluator.proofs.Calls.{number-zero, call-refused, call-done, number-file, number-10, number-11, number-12, number-none, admitted}
 use Rattle.evaluator.proofs.cycle.Statement.{statement}

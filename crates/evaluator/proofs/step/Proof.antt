@@ -1,5 +1,5 @@
 -- `evaluator::step` meets its contract: the test of the record says which case holds.
-use mathlib.Core.Path.{refl, ap}
+use mathlib.Core.Path.{ap}
 use borrow.Author.Needs.{needs}
 use Rattle.wire.proofs.Places.{ok, bad}
 use Rattle.evaluator.specs.declared.Answer.the-variants.{Findings}

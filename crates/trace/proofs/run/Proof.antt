@@ -1,5 +1,5 @@
 -- `trace::run` is safe and ends: each step leaves a well-formed state of the same size, from which the next may go on.
-use mathlib.Core.Path.{_≡_, refl, sym, subst, _∙_}
+use mathlib.Core.Path.{_≡_, refl, _∙_}
 use mathlib.Core.Bool.{Bool, true, false, cond}
 use mathlib.Core.List.{List}
 use Prim.Native.Nat.{ℕ, _-_, _≤_, _<_}
@@ -10,7 +10,6 @@ use denote.Ref.{now}
 use Rattle.casefile.proofs.Accepted.{accepted}
 use Rattle.evaluator.specs.Answer.{recordOk, stateOk}
 use Rattle.evaluator.specs.Cycle.{newState}
-use Rattle.evaluator.specs.Fits.{Ready}
 use Rattle.evaluator.specs.Steps.{stepState}
 use Rattle.evaluator.proofs.Checked.{new-formed}
 use Rattle.trace.specs.Traced.{Started}

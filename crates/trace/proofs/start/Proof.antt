@@ -10,7 +10,7 @@ use Rattle.evaluator.specs.Fresh.{freshNumber}
 use Rattle.evaluator.specs.Steps.{Taken}
 use Rattle.evaluator.proofs.Checked.{blocks-is}
 use Rattle.evaluator.proofs.FreshFormed.{fresh-state-ok, fresh-length}
-use Rattle.trace.proofs.Starting.{is-accepted, is-sized, is-fresh}
+use Rattle.trace.proofs.Starting.{is-accepted, is-fresh}
 use Rattle.trace.proofs.start.Statement.{statement}
 use Rattle.trace.proofs.start.Tie as tie
 

@@ -1,9 +1,7 @@
 -- `evaluator::advance::advance` meets its contract: the parts' contracts come to the definitions of a cycle (`Checked`).
-use mathlib.Core.Path.{_≡_, refl, sym, ap, _∙_}
 use borrow.Author.Needs.{needs}
 use borrow.Author.Tests.{not-true}
 use denote.Ref.{now}
-use Rattle.evaluator.specs.Fits.{Running, Noted}
 use Rattle.evaluator.proofs.Checked.{group-at, few-heads, heads-fit, running, ran-state, packable, all-findings, all-count, no-findings, no-count}
 use Rattle.evaluator.proofs.advance.advance.Statement.{statement}
 use Rattle.evaluator.proofs.advance.advance.Tie as tie

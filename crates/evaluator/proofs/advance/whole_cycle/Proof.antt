@@ -1,8 +1,6 @@
 -- `evaluator::advance::whole_cycle` meets its contract: the state and the findings are `advance`'s, and the outputs show the new state (`Checked`).
-use mathlib.Core.Path.{_≡_}
 use borrow.Author.Needs.{needs}
 use denote.Ref.{now}
-use Rattle.evaluator.specs.Fits.{Ready}
 use Rattle.evaluator.proofs.Checked.{in-place, in-groups, in-order, ready, outputs-fit, outputs-long, shown-new}
 use Rattle.evaluator.proofs.advance.whole_cycle.Statement.{statement}
 use Rattle.evaluator.proofs.advance.whole_cycle.Tie as tie

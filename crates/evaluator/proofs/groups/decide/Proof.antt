@@ -1,12 +1,11 @@
 -- `evaluator::groups::decide` meets its contract: after the turn of group g the bytes and phases of the groups below g + 1 are decided (`Deciding`).
-use mathlib.Core.Path.{_≡_, sym, ap, ap₂, _∙_, subst}
+use mathlib.Core.Path.{_≡_, ap, ap₂, _∙_, subst}
 use Prim.Native.Nat.{ℕ, _-_, _<_}
 use native.Mathlib.Omega.{arith}
 use borrow.Author.Needs.{needs}
-use lib.ListN.{length}
 use denote.Ref.{now}
 use Rattle.casefile.specs.Layout.{runAt, runLinked}
-use Rattle.evaluator.specs.Groups.{controlByte, runsWith, phaseFrom, newGroup, phase}
+use Rattle.evaluator.specs.Groups.{runsWith, phaseFrom, newGroup, phase}
 use Rattle.evaluator.proofs.Deciding.{Deciding, deciding-start, new-is, deciding-turn, deciding-state, deciding-phases}
 use Rattle.evaluator.proofs.groups.decide.Statement.{statement}
 use Rattle.evaluator.proofs.groups.decide.Tie as tie

@@ -1,9 +1,9 @@
 -- `evaluator::turns::first_read` meets its contract: the tests of the kind say which case of `firstRead` holds.
-use mathlib.Core.Path.{sym, ap, ap₂, _∙_}
+use mathlib.Core.Path.{ap, ap₂, _∙_}
 use borrow.Author.Needs.{needs}
 use denote.Ref.{now}
 use Rattle.wire.proofs.Places.{is, is-not}
-use Rattle.block.specs.Inputs.{effectiveMask, firstRead, secondRead}
+use Rattle.block.specs.Inputs.{effectiveMask, firstRead}
 use Rattle.evaluator.specs.Net.{reads}
 use Rattle.evaluator.specs.Groups.{cell}
 use Rattle.evaluator.specs.Cycle.{wires}

@@ -7,7 +7,6 @@ use native.Mathlib.Omega.{arith}
 use borrow.Author.Needs.{needs}
 use lib.ListN.{length, length-replicate}
 use denote.Ref.{now}
-use Rattle.wire.specs.Words.{byteAt}
 use Rattle.casefile.specs.Layout.{orderOf}
 use Rattle.evaluator.proofs.Running.{Held, held-start, held-turn, held-state, held-findings, held-none}
 use Rattle.evaluator.proofs.turns.run.Statement.{statement}

@@ -1,5 +1,5 @@
 -- `evaluator::turns::second_read` meets its contract: the tests of the kind say which case of `secondRead` holds.
-use mathlib.Core.Path.{sym, ap, _∙_}
+use mathlib.Core.Path.{ap, _∙_}
 use borrow.Author.Needs.{needs}
 use denote.Ref.{now}
 use Rattle.wire.proofs.Places.{is, is-not}
