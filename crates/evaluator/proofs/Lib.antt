@@ -13,3 +13,4 @@ pub mod Calls
 pub mod Words
 pub mod Checking
 pub mod FreshFormed
+pub mod Listing
