@@ -16,3 +16,4 @@ pub mod FreshFormed
 pub mod Demand1
 pub mod Demand2
 pub mod Demand3
+pub mod Listing
