@@ -7,7 +7,7 @@ use mathlib.Core.List.{List}
 use Prim.Native.Nat.{ℕ}
 use lib.Dec.{eqb}
 use Rattle.block.specs.State.{STOP, RESET, plain, inError}
-use Rattle.block.specs.Step.{phaseRun, runOf, acknowledgedOf, heldOf, stepOf, readsInputs}
+use Rattle.block.specs.Step.{phaseRun, runOf, acknowledgedOf, heldOf, stepOf, readsInputs, restOf}
 use Rattle.block.specs.declared.BlockState.{BlockState}
 
 -- r runs, e is in ERROR, k is acknowledged
@@ -45,3 +45,12 @@ blind k P phase ack ms x y x' y' old h = go (eqb phase 0) refl
     go : (b : Bool) → eqb phase 0 ≡ b → stepOf k P phase ack ms x y old ≡ stepOf k P phase ack ms x' y' old
     go true e = rw e
     go false e = reads-not k P phase ack ms x y old e h ∙ sym (reads-not k P phase ack ms x' y' old e h)
+
+-- it is the one that does not look at them
+pub rests : (k : ℕ) (P : List ℕ) (phase : ℕ) (ack : Bool) (ms x y : ℕ) (old : BlockState) → readsInputs phase (old .code) ack ≡ false → restOf phase ack old ≡ stepOf k P phase ack ms x y old
+unfolding stepOf restOf
+rests k P phase ack ms x y old h = go (eqb phase 0) refl
+  where
+    go : (b : Bool) → eqb phase 0 ≡ b → restOf phase ack old ≡ stepOf k P phase ack ms x y old
+    go true e = rw e
+    go false e = rw e (sym (reads-not k P phase ack ms x y old e h) ∙ rw e)

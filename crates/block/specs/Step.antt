@@ -169,3 +169,9 @@ stepOf k P phase ack ms x y old =
 -- 01, "One cycle": the step asks what the block reads only in phase RUN and, in ERROR and RESET, of a block last in 4 while ErrAck is true
 abbrev pub readsInputs : ℕ → ℕ → Bool → Bool
 readsInputs phase code ack = eqb phase phaseRun || (not (eqb phase phaseStop) && eqb code ERROR && ack)
+
+-- 01, "One cycle": such a step that does not: phase STOP to 2; a block last in 4 stays so, one last in 5 stays while ErrAck is true, others go to 2
+unfoldable pub restOf : ℕ → Bool → BlockState → BlockState
+restOf phase ack old =
+    cond (eqb phase phaseStop) (plain STOP)
+    (cond (eqb (old .code) ERROR) (inError (old .diagnosis)) (plain (cond (eqb (old .code) RESET && ack) RESET STOP)))

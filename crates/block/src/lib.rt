@@ -7,7 +7,7 @@ ghost use Prim.Native.Nat.{_+_, _*_, _%_, _≤_};
 ghost use lib.Dec.{eqb};
 ghost use Rattle.block.specs.State.{isWaiting, isCounting, decode, encode, plain, inError, running, freshState, untimed, decoupleOk, arithmeticDiagnosis, arithmeticOk, twohandBits, twohandDiagnosis, pairTimeOk, entryOk, twohandOk, stateOk, wellFormed};
 ghost use Rattle.block.specs.Inputs.{effectiveBit, effectiveBits, effectiveMask};
-ghost use Rattle.block.specs.Step.{phaseRun, onlyIf, differs, pairTime, timeSince, changedOver, nextCode, errorBits, moved, judged, twohandRun, twohandFault, opOf, resultOf, resulted, outOfRange, runOf, acknowledgedOf, stepOf, readsInputs};
+ghost use Rattle.block.specs.Step.{phaseRun, onlyIf, differs, pairTime, timeSince, changedOver, nextCode, errorBits, moved, judged, twohandRun, twohandFault, opOf, resultOf, resulted, outOfRange, runOf, acknowledgedOf, stepOf, readsInputs, restOf};
 ghost use Rattle.block.specs.Shows.{shows as showsOf};
 ghost use Rattle.block.specs.Finding.{textId, findingBytes};
 
@@ -102,8 +102,8 @@ pub fn fresh() -> BlockState
     plain(STOP)
 }
 
-// A block's state from its 16 bytes.
-pub fn load(s: &[u8]) -> BlockState
+// A block's state from fewer than 16 bytes, or from any number of them.
+fn load_any(s: &[u8]) -> BlockState
     ensures { λ r. ⌜ r ≡ decode (now (s .entry)) ⌝ }
 {
     BlockState {
@@ -113,6 +113,23 @@ pub fn load(s: &[u8]) -> BlockState
         second: wire::read16(s, 6),
         entry: wire::read16(s, 8),
         output: wire::read32(s, 12),
+    }
+}
+
+// A block's state from its 16 bytes. Where they are all there, they are read at once.
+pub fn load(s: &[u8]) -> BlockState
+    ensures { λ r. ⌜ r ≡ decode (now (s .entry)) ⌝ }
+{
+    if s.len() < 16 {
+        return load_any(s);
+    }
+    BlockState {
+        code: s[0],
+        diagnosis: wire::word16(s[2], s[3]),
+        first: wire::word16(s[4], s[5]),
+        second: wire::word16(s[6], s[7]),
+        entry: wire::word16(s[8], s[9]),
+        output: wire::word32(s[12], s[13], s[14], s[15]),
     }
 }
 
@@ -567,6 +584,23 @@ pub fn reads_inputs(phase: u8, code: u8, ack: bool) -> bool
     (phase == PHASE_RUN) | (!(phase == PHASE_STOP) & (code == ERROR) & ack)
 }
 
+// What a block does that does not read its inputs.
+pub fn rest(phase: u8, ack: bool, old: BlockState) -> BlockState
+    ensures { λ r. ⌜ r ≡ restOf phase ack old ⌝ }
+{
+    let code = old.code;
+    if phase == PHASE_STOP {
+        return plain(STOP);
+    }
+    if code == ERROR {
+        return in_error(old.diagnosis);
+    }
+    if (code == RESET) & ack {
+        return plain(RESET);
+    }
+    plain(STOP)
+}
+
 // What a block does in one cycle.
 pub fn step(
     kind: u8,
@@ -587,13 +621,7 @@ pub fn step(
     if reads_inputs(phase, code, ack) {
         return reading_step(kind, p, phase, ms, x, y, old);
     }
-    if code == ERROR {
-        return in_error(old.diagnosis);
-    }
-    if (code == RESET) & ack {
-        return plain(RESET);
-    }
-    plain(STOP)
+    rest(phase, ack, old)
 }
 
 // ---- what a block shows, and a finding of it

@@ -139,7 +139,13 @@ pub fn input_record(file: &[u8], start: usize, i: usize) -> &[u8]
 pub fn block_record(file: &[u8], start: usize, b: usize) -> &[u8]
     ensures { λ r. ⌜ now r ≡ slot start 40 b (now (file .entry)) ⌝ }
 {
-    cycle_record(file, start, BLOCK_SIZE, b)
+    if 65536 <= b {
+        return cycle_record(file, start, BLOCK_SIZE, b);
+    }
+    if 4294967296 <= start {
+        return cycle_record(file, start, BLOCK_SIZE, b);
+    }
+    wire::part(file, start + BLOCK_SIZE * b, BLOCK_SIZE)
 }
 
 pub fn output_record(file: &[u8], start: usize, o: usize) -> &[u8]

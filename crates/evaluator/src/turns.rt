@@ -187,10 +187,7 @@ pub fn turn(
     if block::reads_inputs(phase, old.code, ack) {
         return reading_turn(file, start, r, rec, h, phase, ack, state, findings, b);
     }
-    let ms = wire::read16(rec, 0);
-    let kind = casefile::kind_of(r);
-    let new = block::step(kind, casefile::parameters_of(r), phase, ack, ms, 0, 0, old);
-    let bytes = block::pack(new);
+    let bytes = block::pack(block::rest(phase, ack, old));
     wire::put(state, at, &bytes);
     false
 }

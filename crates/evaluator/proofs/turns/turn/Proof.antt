@@ -4,9 +4,12 @@ use Prim.Native.Nat.{ℕ, _+_, _*_}
 use borrow.Author.Needs.{needs}
 use lib.Seq.{sets}
 use denote.Ref.{now}
-use Rattle.wire.specs.Words.{byteAt}
-use Rattle.casefile.specs.Layout.{groupIn, groupOf, kindOf, parametersOf}
+use mathlib.Core.Bool.{false}
+use Rattle.wire.specs.Words.{byteAt, le16}
+use Rattle.casefile.specs.Layout.{kindIn, groupIn, groupOf, kindOf, parametersIn, parametersOf}
 use Rattle.block.specs.Inputs.{firstRead, secondRead}
+use Rattle.block.specs.Step.{stepOf, readsInputs}
+use Rattle.block.proofs.Steps.{rests}
 use Rattle.evaluator.specs.Net.{words}
 use Rattle.evaluator.specs.Groups.{cell, isErrAck}
 use Rattle.evaluator.specs.Cycle.{wires}
@@ -57,36 +60,48 @@ returns c =
 
 -- the places before the bytes of a quiet step were made
 abbrev acked-of : tie.After-pack → tie.After-err-ack
-acked-of c = c .before .before .before .before .before .before .before .before .before .before
+acked-of c = c .before .before .before .before .before .before .before
+
+-- the step does not read the block's inputs
+quiet : (c : tie.Else1) → let k = c .before .before .before .before .before in readsInputs (k .before .before .byte .result) (c .before .before .load .result .code) (k .err-ack .result) ≡ false
+quiet c = sym (c .before .reads-inputs .ensures) ∙ c .if1 .left
+
+-- and is the one of any inputs, 0 and 0 among them
+rested : (c : tie.After-pack) →
+    let k = acked-of c in
+    let Q = now (k .before .before .before .before .block-record .result) in
+    c .before .rest .result
+    ≡ stepOf (kindIn Q) (parametersIn Q) (k .before .before .byte .result) (k .err-ack .result) (le16 (now (start-of k .args .rec)) 0) 0 0 (c .before .before .before .before .load .result)
+rested c =
+    let k = acked-of c in
+    let Q = now (k .before .before .before .before .block-record .result) in
+    c .before .rest .ensures
+    ∙ rests (kindIn Q) (parametersIn Q) (k .before .before .byte .result) (k .err-ack .result) (le16 (now (start-of k .args .rec)) 0) 0 0 (c .before .before .before .before .load .result) (quiet (c .before .before))
 
 made : (c : tie.After-pack) →
     let k = acked-of c in
     let a = start-of k .args in
-    let d = c .before .before .before in
-    let l = d .before .before .before .before in
-    Made (now (a .file)) (now (a .rec)) (now (a .state)) (now (k .before .before .before .before .block-record .result)) (a .start) (a .h) (k .before .before .byte .result) (a .b) (k .err-ack .result)
-    (d .kind-of .result) (d .before .read16 .result)
+    let Q = now (k .before .before .before .before .block-record .result) in
+    let l = c .before .before .before .before in
+    Made (now (a .file)) (now (a .rec)) (now (a .state)) Q (a .start) (a .h) (k .before .before .byte .result) (a .b) (k .err-ack .result) (kindIn Q) (le16 (now (a .rec)) 0)
     (firstRead (kindOf (now (a .file)) (a .b)) (parametersOf (now (a .file)) (a .b)) (words (wires (now (a .file)) (now (a .rec))) (cell (now (a .file)) (now (a .state))) (a .b)))
     (secondRead (kindOf (now (a .file)) (a .b)) (parametersOf (now (a .file)) (a .b)) (words (wires (now (a .file)) (now (a .rec))) (cell (now (a .file)) (now (a .state))) (a .b)))
-    (now (c .before .before .parameters-of .result)) (now (l .before .part .result)) (c .pack .result) (l .load .result) (c .before .step .result)
+    (parametersIn Q) (now (l .before .part .result)) (c .pack .result) (l .load .result) (c .before .rest .result)
 made c =
     let k = acked-of c in
     let s = start-of k in
-    let a = s .args in
-    let d = c .before .before .before in
-    let l = d .before .before .before .before in
+    let l = c .before .before .before .before in
     record {
       at = s .pre .0;
       turning = turning k;
-      kind = d .kind-of .ensures;
-      parameters = c .before .before .parameters-of .ensures;
-      time = d .before .read16 .ensures;
+      kind = refl;
+      parameters = refl;
+      time = refl;
       part = l .before .part .ensures;
       loaded = l .load .ensures;
       first = refl;
       second = refl;
-      stepped =
-          quiet-step _ _ _ _ _ _ _ (sym (d .before .before .before .reads-inputs .ensures) ∙ d .before .before .if1 .left) (c .before .step .ensures) _ _;
+      stepped = quiet-step _ _ _ _ _ _ _ (quiet (c .before .before)) (rested c) _ _;
       packed = c .pack .ensures;
     }
 
@@ -94,12 +109,10 @@ returns-2 : tie.Need-returns-2
 returns-2 c =
     let q = c .before .before in
     let p = q .before .before .before in
-    let d = p .before .before .before in
     let k = acked-of p in
     let a = start-of k .args in
     let m = made p in
-    let still = quiet-enters _ _ _ _ _ _ _ (sym (d .before .before .before .reads-inputs .ensures) ∙ d .before .before .if1 .left) (p .before .step .ensures) in
-    let e = entering-is m _ still in
+    let e = entering-is m _ (quiet-enters _ _ _ _ _ _ _ (quiet (p .before .before)) (rested p)) in
     let f = phase-is k in (
       q .put .ensures ∙ ap (sets (now (a .state)) (a .h + 16 * a .b)) (turned-is m)
           ∙ ap (λ (j : ℕ). sets (now (a .state)) (a .h + 16 * a .b) (turned (now (a .file)) (now (a .rec)) j (now (a .state)) (a .b))) f,
@@ -129,9 +142,6 @@ turn-spec =
     (λ c. search needs)
     (λ c. search needs)
     returns
-    (λ c κs. search needs)
-    (λ c κs. search needs)
-    (λ c κs. search needs)
     (λ c κs. search needs)
     (λ c κs. search needs)
     (λ c. search needs)
