@@ -7,3 +7,4 @@ pub mod Onto
 pub mod Listing
 pub mod Accepted
 pub mod Bytes
+pub mod Bodies

@@ -6,31 +6,33 @@ ghost use Prim.Native.Nat.{_+_, _*_, _<_, _≤_};
 ghost use lib.ListN.{length};
 ghost use Rattle.wire.specs.Records.{slot};
 ghost use Rattle.wire.specs.Places.{firstBad, all};
-ghost use Rattle.casefile.specs.Layout.{bodyStart, bodySize, groupCount, runAt, inputGroupIn, inputTypeIn, blockCount, kindIn, groupIn, orderIn, zeroIn, parametersIn, linkKindIn, linkIndexIn, linkPortIn, linkIn, outputCount, outputGroupIn, outputBlockIn, outputPortIn, layoutOf};
+ghost use Rattle.casefile.specs.Layout.{bodyStart, bodySize, bodyOf, groupCount, runAt, inputGroupIn, inputTypeIn, blockCount, kindIn, groupIn, orderIn, zeroIn, parametersIn, linkKindIn, linkIndexIn, linkPortIn, linkIn, outputCount, outputGroupIn, outputBlockIn, outputPortIn, layoutOf};
 ghost use Rattle.casefile.specs.Rules.{sizeOk, followsOk, contentsOk, groupsSizeOk, groupRule, inputsSizeOk, inputRule, blocksSizeOk, blockRule, orderOk, linkKnown, sourceFits, linked, bitOf, linkActive, linkOk, outputsSizeOk, outputRule, passes, linkPasses, blockPasses, outputPasses, channelRule, channelOk, channelsOk, traceOk};
 ghost use Rattle.casefile.specs.Rows.{rowOk};
 ghost use Rattle.casefile.specs.Marks.{Marked, Meant};
 ghost use Rattle.casefile.specs.Refusal.{verdict, numberOf, from2, from3, from3v, from4, from4v, from5, from5v, from6, from7, from8, from8v, from8c, from9};
 
+mod reader;
+
 // The bodies, by their places in the table of contents.
-const BODY_G: u8 = 0;
+pub const BODY_G: u8 = 0;
 
-const BODY_I: u8 = 1;
+pub const BODY_I: u8 = 1;
 
-const BODY_B: u8 = 2;
+pub const BODY_B: u8 = 2;
 
-const BODY_O: u8 = 3;
+pub const BODY_O: u8 = 3;
 
-const BODY_T: u8 = 4;
+pub const BODY_T: u8 = 4;
 
 // The size of the table of contents, and of the records of I, B and O.
 const CONTENTS_SIZE: usize = 40;
 
-const INPUT_SIZE: usize = 2;
+pub const INPUT_SIZE: usize = 2;
 
-const BLOCK_SIZE: usize = 40;
+pub const BLOCK_SIZE: usize = 40;
 
-const OUTPUT_SIZE: usize = 3;
+pub const OUTPUT_SIZE: usize = 3;
 
 // How many links a block's record has.
 const LINKS: u8 = 8;
@@ -42,14 +44,13 @@ pub enum Source {
     Output(u8, u8),
 }
 
-// Where a file's bodies start and how many records each has, as its table of contents says.
+// The device, where a file's bodies G, I, B and O start, how many records each body has, and the size of a cycle record, as the file says.
 pub struct Layout {
     pub device: u8,
-    pub group: usize,
-    pub input: usize,
-    pub block: usize,
-    pub output: usize,
-    pub record: usize,
+    group: usize,
+    input: usize,
+    block: usize,
+    output: usize,
     pub groups: usize,
     pub inputs: usize,
     pub blocks: usize,
@@ -91,7 +92,6 @@ pub fn layout_of(file: &[u8]) -> Layout
         input: body_start(file, BODY_I) as usize,
         block: body_start(file, BODY_B) as usize,
         output: body_start(file, BODY_O) as usize,
-        record: body_start(file, BODY_T) as usize,
         groups,
         inputs,
         blocks: (body_size(file, BODY_B) as usize) / BLOCK_SIZE,
@@ -99,6 +99,13 @@ pub fn layout_of(file: &[u8]) -> Layout
         records: (body_size(file, BODY_T) as usize) / size,
         size,
     }
+}
+
+// Body e of the file, as a part of it.
+pub fn body(file: &[u8], e: u8) -> &[u8]
+    ensures { λ r. ⌜ now r ≡ bodyOf (now (file .entry)) e ⌝ }
+{
+    reader::body(file, e)
 }
 
 // The byte of group g, in a G that starts at `start`.
@@ -130,7 +137,7 @@ pub fn cycle_record(file: &[u8], start: usize, size: usize, k: usize) -> &[u8]
     wire::part(file, start + size * k, size)
 }
 
-pub fn input_record(file: &[u8], start: usize, i: usize) -> &[u8]
+fn input_record(file: &[u8], start: usize, i: usize) -> &[u8]
     ensures { λ r. ⌜ now r ≡ slot start 2 i (now (file .entry)) ⌝ }
 {
     cycle_record(file, start, INPUT_SIZE, i)
@@ -148,7 +155,7 @@ pub fn block_record(file: &[u8], start: usize, b: usize) -> &[u8]
     wire::part(file, start + BLOCK_SIZE * b, BLOCK_SIZE)
 }
 
-pub fn output_record(file: &[u8], start: usize, o: usize) -> &[u8]
+fn output_record(file: &[u8], start: usize, o: usize) -> &[u8]
     ensures { λ r. ⌜ now r ≡ slot start 3 o (now (file .entry)) ⌝ }
 {
     cycle_record(file, start, OUTPUT_SIZE, o)

@@ -3,7 +3,7 @@ use mathlib.Core.Path.{_≡_, refl, sym, ap, ap₂, _∙_, subst}
 use mathlib.Core.Bool.{Bool, true, false, cond, not, _&&_}
 use mathlib.Core.Logic.{_≢_, ⊎-elim}
 use mathlib.Core.List.{List, [], _∷_, _++_}
-use Prim.Native.Nat.{ℕ, _+_, _-_, _*_, _≤_, _<_}
+use Prim.Native.Nat.{ℕ, _+_, _*_, _≤_, _<_}
 use native.Mathlib.Omega.{arith}
 use lib.ListN.{length, take, drop, replicate, length-append, length-drop, List·getD-append}
 use Rattle.wire.specs.Words.{byteAt, bytes4}
@@ -12,14 +12,16 @@ use Rattle.wire.specs.Places.{all}
 use Rattle.wire.proofs.Places.{all-each, all-true, both-left}
 use Rattle.wire.proofs.Records.{lt-or-gt, slot-gather, gather-same, length-gather}
 use Rattle.casefile.specs.declared.Layout.{Layout}
-use Rattle.casefile.specs.Layout.{bodyG, bodyB, bodyO, bodyStart, groupCount, blockCount, outputCount, kindOf, orderOf, parametersOf, outputBlock, outputPort, layoutOf}
-use Rattle.casefile.proofs.Accepted.{Good, accepted, from-output, block-at-lt, block-at-is}
+use Rattle.casefile.specs.Layout.{bodyB, bodyOf, groupCount, runAt, blockCount, outputCount, kindOf, orderOf, parametersOf, linkOf, recordSize, outputBlock, outputPort, layoutOf}
+use Rattle.casefile.proofs.Accepted.{Good, accepted, external, from-output, run-within, outputs-long as rows-long, output-within, block-at-lt, block-at-is}
 use Rattle.evaluator.specs.Groups.{controlByte, isErrAck, cell, isHeld, isAcknowledged, hasError, isPending, groupNext, newGroup}
 use Rattle.evaluator.specs.Packed.{hits, packed}
 use Rattle.evaluator.specs.Cycle.{portShows, newBlock, newState, outputWord, newOutputs, newFindings, findingCount}
 use Rattle.evaluator.specs.Answer.{stateLength, outputsLength, findingsLength, groupFormed, groupOk, blockOk, stateOk}
 use Rattle.block.specs.State.{wellFormed}
-use Rattle.evaluator.specs.Fits.{Placed, Grouped, Decided, Ordered, Ranked, Running, Ready, Admitted, errorList, outputShown, ranWith, entersWith, slotWith, noteIn, isNoted, Noted}
+use Rattle.evaluator.specs.Fits.{Standing, Named, Due, Shown, Grouped, Linking, Decided, Ordered, Ranked, Running, Ready, Admitted, orderList, errorList, outputShown, ranWith, entersWith, slotWith, noteIn, isNoted, Noted}
+use Rattle.evaluator.proofs.Reading.{record-in, records-long}
+use Rattle.evaluator.proofs.Ranking.{order-ranked}
 use Rattle.evaluator.proofs.Deciding.{row-length, row-at}
 use Rattle.evaluator.proofs.Cycles.{block-length, block-formed, decidedState, state-new, noted, findings-new, count-new, findings-none, count-none}
 
@@ -54,21 +56,17 @@ module _ (F : List ℕ) (l : Layout) (e : l ≡ layoutOf F) where
   unfolding layoutOf
   outputs-is = λ i. e i .outputs
 
-  pub group-at : l .group ≡ bodyStart F bodyG
-  unfolding layoutOf
-  group-at = λ i. e i .group
-
-  pub block-at : l .block ≡ bodyStart F bodyB
-  unfolding layoutOf
-  block-at = λ i. e i .block
-
-  pub output-at : l .output ≡ bodyStart F bodyO
-  unfolding layoutOf
-  output-at = λ i. e i .output
-
   module _ (g : Good F) where
-    pub placed : Placed F (l .block) (l .groups)
-    placed = record { begins = block-at; heads = groups-is; few = rw groups-is (g .groups .few) }
+    pub standing : (B S : List ℕ) → B ≡ bodyOf F bodyB → length S ≡ stateLength F → Standing F B S (l .groups)
+    unfolding stateLength
+    standing B S b s = record {
+      each = record-in g b;
+      long = records-long g b;
+      fewBlocks = g .blocks .few;
+      heads = groups-is;
+      few = rw groups-is (g .groups .few);
+      state = s ∙ ap (λ (k : ℕ). k + 16 * blockCount F) (sym groups-is);
+    }
 
     pub grouped : Grouped F (l .blocks)
     grouped = record {
@@ -80,18 +78,37 @@ module _ (F : List ℕ) (l : Layout) (e : l ≡ layoutOf F) where
     orders-apart : (a b : ℕ) → a < blockCount F → b < blockCount F → a ≢ b → orderOf F a ≢ orderOf F b
     orders-apart a b p q n x = ⊎-elim (λ k. g .orderOther a b k q x) (λ k. g .orderOther b a k p (sym x)) (lt-or-gt a b n)
 
-    pub ordered : Ordered F (l .block) (l .blocks)
-    ordered = record {
-      begins = block-at;
+    pub ordered : (B : List ℕ) → B ≡ bodyOf F bodyB → Ordered F B (l .blocks)
+    ordered B e = record {
+      count = blocks-is;
+      each = λ b q. record-in g e b (rw blocks-is at q);
+      long = records-long g e ∙ ap (λ (n : ℕ). 40 * n) (sym blocks-is);
       few = rw blocks-is (g .blocks .few);
       below = λ b q. rw blocks-is (g .orderBelow b (rw blocks-is at q));
       apart = λ a b p q. orders-apart a b (rw blocks-is at p) (rw blocks-is at q);
       lands = λ e q. (rw blocks-is (block-at-lt g e (rw blocks-is at q)), block-at-is g e (rw blocks-is at q));
     }
 
+-- ---- a block's turn
+
+-- what the links of an accepted file's blocks name is there
+named : (F : List ℕ) → Good F → (b p : ℕ) → b < blockCount F → Named F (linkOf F b p)
+named F g b p l = record {
+  external = λ i e. external g b p i l e .exists;
+  output = λ a q e. from-output g b p a q l e .exists;
+}
+
+due : (F R H : List ℕ) (b : ℕ) → Good F → length R ≡ recordSize F → length H ≡ 8 → b < blockCount F → Due F R H b
+due F R H b g r h l = record {
+  inside = l;
+  group = g .block b l .group;
+  linked = record { links = λ p. named F g b p l; long = r };
+  phases = h;
+}
+
 -- ---- the parts of a cycle
 
-module _ (F R : List ℕ) (l : Layout) (K E S D : List ℕ) (r : Ready F l K E S D) where
+module _ (F R : List ℕ) (l : Layout) (G B K E S D : List ℕ) (r : Ready F l G B K E S D) where
   pub good : Good F
   good = accepted F (r .accepted)
 
@@ -101,8 +118,8 @@ module _ (F R : List ℕ) (l : Layout) (K E S D : List ℕ) (r : Ready F l K E S
   count : l .blocks ≡ blockCount F
   count = blocks-is F l (r .layout)
 
-  pub few-heads : l .groups ≤ 8
-  few-heads = rw heads (good .groups .few)
+  pub linking : Linking F G (l .groups)
+  linking = record { each = λ k q. ap (runAt 0 k) (r .groups) ∙ run-within good k (rw heads at q); few = rw heads (good .groups .few) }
 
   pub heads-fit : l .groups ≤ length S
   unfolding stateLength
@@ -121,22 +138,20 @@ module _ (F R : List ℕ) (l : Layout) (K E S D : List ℕ) (r : Ready F l K E S
         ap length s ∙ length-append (gather (l .groups) (λ g. newGroup F R S g ∷ [])) (drop (l .groups) S)
         ∙ omega (arith, row-length (l .groups) (newGroup F R S), length-drop (l .groups) S, heads-fit)
 
-    pub running : (D1 : List ℕ) → D1 ≡ replicate (length D) 0 → Running F K S1 D1 (l .block) (l .groups) (l .blocks)
+    pub running : (D1 : List ℕ) → D1 ≡ replicate (length D) 0 → length R ≡ recordSize F → Running F R H B K S1 D1 (l .groups) (l .blocks)
     unfolding stateLength findingsLength
-    running D1 z = record {
-      placed = placed F l (r .layout) good;
+    running D1 z long = record {
+      standing = standing F l (r .layout) good B S1 (r .blocks) (decided-long ∙ r .size);
       count = count;
-      few = rw count (good .blocks .few);
+      due = λ b k. due F R H b good long (d .long) (rw count at k);
       below = o .below;
       apart = o .apart;
-      closed = λ b p a q k e. rw count (from-output good b p a q (rw count at k) e .exists);
-      ranked = λ e k. rw count (r .ranked .each e (rw count at k));
-      state = decided-long ∙ r .size ∙ sym (ap₂ (λ (x y : ℕ). x + 16 * y) heads count);
+      ranked = subst (λ (t : List ℕ). Ranked F (l .blocks) t) (sym (r .order)) (subst (λ (k : ℕ). Ranked F k (orderList F)) (sym count) (order-ranked F good));
       clean = z ∙ ap (λ (k : ℕ). replicate k 0) (r .room ∙ ap (λ (k : ℕ). 16 * k) (sym count));
     }
       where
-        o : Ordered F (l .block) (l .blocks)
-        o = ordered F l (r .layout) good
+        o : Ordered F B (l .blocks)
+        o = ordered F l (r .layout) good B (r .blocks)
 
     -- when the blocks have run
     pub ran-state : (S2 : List ℕ) → S2 ≡ take (l .groups) S1 ++ gather (l .blocks) (ranWith F R H S1) → S2 ≡ newState F R S
@@ -205,32 +220,39 @@ module _ (F R S : List ℕ) (g : Good F) where
 
 -- ---- a whole call
 
-module _ (F R : List ℕ) (l : Layout) (S O D : List ℕ) (m : Admitted F l S O D) where
+module _ (F R : List ℕ) (l : Layout) (G B W S O D : List ℕ) (m : Admitted F l G B W S O D) where
   file-good : Good F
   file-good = accepted F (m .accepted)
 
-  pub in-place : Placed F (l .block) (l .groups)
-  in-place = placed F l (m .layout) file-good
+  pub in-place : (T : List ℕ) → length T ≡ stateLength F → Standing F B T (l .groups)
+  in-place T e = standing F l (m .layout) file-good B T (m .blocks) e
 
   pub in-groups : Grouped F (l .blocks)
   in-groups = grouped F l (m .layout) file-good
 
-  pub in-order : Ordered F (l .block) (l .blocks)
-  in-order = ordered F l (m .layout) file-good
+  pub in-order : Ordered F B (l .blocks)
+  in-order = ordered F l (m .layout) file-good B (m .blocks)
 
-  pub ready : (K E : List ℕ) → Ranked F (l .blocks) K → E ≡ errorList F S → Ready F l K E S D
+  pub ready : (K E : List ℕ) → K ≡ orderList F → E ≡ errorList F S → Ready F l G B K E S D
   ready K E k e = record {
     accepted = m .accepted;
     layout = m .layout;
-    ranked = subst (λ (n : ℕ). Ranked F n K) (blocks-is F l (m .layout)) k;
+    groups = m .groups;
+    blocks = m .blocks;
+    order = k;
     errors = e;
     size = m .state;
     formed = m .formed;
     room = m .findings;
   }
 
-  pub outputs-fit : (l .output ≡ bodyStart F bodyO) × (l .outputs ≤ 64)
-  outputs-fit = (output-at F l (m .layout), rw (outputs-is F l (m .layout)) (file-good .outputs .few))
+  pub outputs-fit : Shown F W (l .outputs)
+  outputs-fit = record {
+    each = λ o q. ap (λ (y : List ℕ). take 3 (drop (3 * o) y)) (m .rows) ∙ output-within file-good o (rw (outputs-is F l (m .layout)) at q);
+    long = ap length (m .rows) ∙ rows-long file-good ∙ ap (λ (n : ℕ). 3 * n) (sym (outputs-is F l (m .layout)));
+    few = rw (outputs-is F l (m .layout)) (file-good .outputs .few);
+    blocks = λ o q. file-good .output o (rw (outputs-is F l (m .layout)) at q) .block;
+  }
 
   pub outputs-long : length O ≡ 4 * l .outputs
   unfolding outputsLength

@@ -1,40 +1,24 @@
 -- What an accepted file says of its layout, and what the code's tests of a cycle call's arguments say by the definitions. Assumes nothing.
-use mathlib.Core.Path.{_≡_, refl, ap, ap₂, _∙_}
+use mathlib.Core.Path.{_≡_, sym, ap, ap₂, _∙_}
 use mathlib.Core.Bool.{Bool, _&&_}
 use mathlib.Core.List.{List}
-use Prim.Native.Nat.{ℕ, _+_, _-_, _*_, _≤_}
-use native.Mathlib.Nat.{add-sub-cancel-left}
+use Prim.Native.Nat.{ℕ, _+_, _*_, _≤_, _<_}
 use native.Mathlib.Omega.{arith}
 use lib.ListN.{length, take, drop}
 use lib.Dec.{eqb}
 use Rattle.wire.specs.Words.{byteAt, le32}
-use Rattle.wire.specs.Records.{slot}
+use Rattle.wire.proofs.Records.{word-within}
 use Rattle.casefile.specs.declared.Layout.{Layout}
-use Rattle.casefile.specs.declared.Verdict.{Verdict}
-use Rattle.casefile.specs.declared.Verdict.the-variants.{Accepted, BadSize, BadContents, BadGroups, BadInputs, BadBlocks, BadOrder, BadLinks, BadOutputs, BadTrace}
-use Rattle.casefile.specs.Layout.{runAt, inputTypeIn, kindIn, parametersIn, recordSize, layoutOf}
-use Rattle.casefile.specs.Refusal.{verdict, numberOf}
-use Rattle.casefile.proofs.Placed.{is-device, is-groups, is-inputs, is-blocks, is-outputs, is-run, is-input}
-use Rattle.casefile.proofs.Accepted.{accepted}
+use Rattle.casefile.specs.declared.Verdict.the-variants.{Accepted}
+use Rattle.casefile.specs.Layout.{bodyG, bodyI, bodyB, bodyOf, groupCount, runAt, inputCount, inputTypeIn, blockCount, kindIn, parametersIn, recordSize, layoutOf}
+use Rattle.casefile.specs.Refusal.{verdict}
+use Rattle.casefile.proofs.Placed.{is-device, is-groups, is-inputs, is-blocks, is-outputs}
+use Rattle.casefile.proofs.Accepted.{accepted, inputs-long, input-within, run-within}
 use Rattle.block.specs.State.{wellFormed}
 use Rattle.block.specs.Shows.{wordOk}
 use Rattle.evaluator.specs.Groups.{inputWord}
-use Rattle.evaluator.specs.Fits.{Placed}
 use Rattle.evaluator.specs.Answer.{stateLength, outputsLength, findingsLength, sizesFit, blockOk, controlRule, controlOk, inputOk}
-use Rattle.evaluator.proofs.Reading.{record-is, cell-is}
-
--- only an accepted file has the number 0
-pub is-accepted : (v : Verdict) → numberOf v ≡ 0 → v ≡ Accepted
-is-accepted Accepted e = refl
-is-accepted BadSize e = absurd (omega arith)
-is-accepted BadContents e = absurd (omega arith)
-is-accepted BadGroups e = absurd (omega arith)
-is-accepted BadInputs e = absurd (omega arith)
-is-accepted BadBlocks e = absurd (omega arith)
-is-accepted BadOrder e = absurd (omega arith)
-is-accepted BadLinks e = absurd (omega arith)
-is-accepted BadOutputs e = absurd (omega arith)
-is-accepted BadTrace e = absurd (omega arith)
+use Rattle.evaluator.proofs.Reading.{record-in, cell-is}
 
 -- the layout of an accepted file
 module _ (F : List ℕ) {l : Layout} (e : l ≡ layoutOf F) (a : verdict F ≡ Accepted) where
@@ -50,16 +34,9 @@ module _ (F : List ℕ) {l : Layout} (e : l ≡ layoutOf F) (a : verdict F ≡ A
   pub few-outputs : l .outputs ≤ 64
   few-outputs = omega (arith, is-outputs F e, accepted F a .outputs .few)
 
-  pub placed : Placed F (l .block) (l .groups)
-  unfolding layoutOf
-  placed = record { begins = ap (λ (x : Layout). x .block) e; heads = is-groups F e; few = few-groups }
-
-  -- I stands in the file
-  pub inputs-within : l .input + 2 * l .inputs ≤ length F
-  unfolding layoutOf
-  inputs-within =
-      let g = accepted F a in
-      omega (arith, ap (λ (x : Layout). x .input) e, is-inputs F e, g .inputs .size, g .starts .startB, g .starts .startO, g .starts .startT, g .starts .endT)
+  -- I has the records of all inputs
+  pub inputs-there : (I : List ℕ) → I ≡ bodyOf F bodyI → length I ≡ 2 * l .inputs
+  inputs-there I b = ap length b ∙ inputs-long (accepted F a) ∙ ap (λ (n : ℕ). 2 * n) (sym (is-inputs F e))
 
 -- ---- 10
 
@@ -83,30 +60,32 @@ module _ (F : List ℕ) {l : Layout} (e : l ≡ layoutOf F) where
 
 -- ---- 11
 
--- block b's test, from its record Q, kind k, parameters P and bytes T
-pub block-is : (F S : List ℕ) (start h b : ℕ) (Q P T : List ℕ) (k : ℕ) (x : Bool) → Placed F start h → Q ≡ slot start 40 b F → T ≡ take 16 (drop (h + 16 * b) S) → k ≡ kindIn Q → P ≡ parametersIn Q → x ≡ wellFormed k P T → x ≡ blockOk F S b
+-- block b's test, from its record Q in the body B, its kind k, parameters P and bytes T
+pub block-is : (F B S : List ℕ) (h b : ℕ) (Q P T : List ℕ) (k : ℕ) (x : Bool) → verdict F ≡ Accepted → B ≡ bodyOf F bodyB → h ≡ groupCount F → b < blockCount F →
+    Q ≡ take 40 (drop (40 * b) B) → T ≡ take 16 (drop (h + 16 * b) S) → k ≡ kindIn Q → P ≡ parametersIn Q → x ≡ wellFormed k P T → x ≡ blockOk F S b
 unfolding blockOk
-block-is F S start h b Q P T k x at q t u v w =
-    let here = q ∙ record-is F S S start h at b in
-    w ∙ (λ i. wellFormed ((u ∙ ap kindIn here) i) ((v ∙ ap parametersIn here) i) ((t ∙ cell-is F S S start h at b) i))
+block-is F B S h b Q P T k x a e n l q t u v w =
+    let here = q ∙ record-in (accepted F a) e b l in
+    w ∙ (λ i. wellFormed ((u ∙ ap kindIn here) i) ((v ∙ ap parametersIn here) i) ((t ∙ cell-is F S h n b) i))
 
 -- ---- 12
 
 module _ (F R : List ℕ) {l : Layout} (e : l ≡ layoutOf F) where
-  -- group g's test, from its byte y of G and its byte z of the record
-  pub control-is : (g y z : ℕ) (x : Bool) → y ≡ runAt (l .group) g F → z ≡ byteAt R (2 + g) → x ≡ controlRule (l .device) y z → x ≡ controlOk F R g
+  -- group g's test, from its byte y of the body G and its byte z of the record
+  pub control-is : (G : List ℕ) (g y z : ℕ) (x : Bool) → verdict F ≡ Accepted → G ≡ bodyOf F bodyG → g < groupCount F → y ≡ runAt 0 g G → z ≡ byteAt R (2 + g) → x ≡ controlRule (l .device) y z → x ≡ controlOk F R g
   unfolding controlOk
-  control-is g y z x p q r = r ∙ (λ i. controlRule (is-device F e i) (is-run F e g p i) (q i))
+  control-is G g y z x a b m p q r =
+      let run = p ∙ ap (runAt 0 g) b ∙ run-within (accepted F a) g m in
+      r ∙ (λ i. controlRule (is-device F e i) (run i) (q i))
 
-  -- input i's test, from its type t, read of its record in the file, and its word w
-  pub input-is : (i t w : ℕ) (x : Bool) →
-      let from = l .input + 2 * i in
-      t ≡ inputTypeIn (take (from + 2 - from) (drop from F)) → w ≡ le32 R (2 + l .groups + 4 * i) → x ≡ wordOk t w → x ≡ inputOk F R i
-  unfolding inputOk inputWord slot
-  input-is i t w x s v r =
-      let from = l .input + 2 * i in
-      let here = is-input F e i (ap (λ (n : ℕ). take n (drop from F)) (add-sub-cancel-left from 2)) in
-      r ∙ ap₂ wordOk (s ∙ ap inputTypeIn here) (v ∙ ap (λ (h : ℕ). le32 R (2 + h + 4 * i)) (is-groups F e))
+  -- input i's test, from its record Q in the body I, its type t, its word's bytes W and its word w
+  pub input-is : (I Q W : List ℕ) (i t w : ℕ) (x : Bool) → verdict F ≡ Accepted → I ≡ bodyOf F bodyI → i < inputCount F → Q ≡ take 2 (drop (2 * i) I) →
+      t ≡ inputTypeIn Q → W ≡ take 4 (drop (2 + l .groups + 4 * i) R) → w ≡ le32 W 0 → x ≡ wordOk t w → x ≡ inputOk F R i
+  unfolding inputOk inputWord
+  input-is I Q W i t w x a b m q s u v r =
+      let here = q ∙ ap (λ (y : List ℕ). take 2 (drop (2 * i) y)) b ∙ input-within (accepted F a) i m in
+      let word = v ∙ ap (λ (y : List ℕ). le32 y 0) u ∙ word-within (2 + l .groups + 4 * i) R in
+      r ∙ ap₂ wordOk (s ∙ ap inputTypeIn here) (word ∙ ap (λ (h : ℕ). le32 R (2 + h + 4 * i)) (is-groups F e))
 
   -- a record of the file's size has a word for each input
   pub words-within : length R ≡ recordSize F → length R ≡ 2 + l .groups + 4 * l .inputs

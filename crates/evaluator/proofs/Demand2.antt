@@ -13,21 +13,20 @@ use lib.Seq.{take-at, drop-at, getD-append-add}
 use Rattle.wire.specs.Words.{byteAt}
 use Rattle.wire.specs.Records.{slot}
 use Rattle.wire.proofs.Records.{slot-past}
-use Rattle.casefile.specs.declared.Verdict.the-variants.{Accepted}
 use Rattle.casefile.specs.Layout.{blockCount, orderOf}
-use Rattle.casefile.specs.Refusal.{verdict, numberOf}
-use Rattle.casefile.proofs.Accepted.{Good, accepted, from-output}
+use Rattle.casefile.specs.Refusal.{verdict}
+use Rattle.casefile.proofs.Accepted.{number-zero, Good, accepted, from-output}
 use Rattle.evaluator.specs.declared.Answer.{Answer}
 use Rattle.evaluator.specs.declared.Answer.the-variants.{Findings, Refused}
 use Rattle.evaluator.specs.Net.{words, seen}
 use Rattle.evaluator.specs.Groups.{cell, phase}
 use Rattle.evaluator.specs.Packed.{entries, hits, packed}
 use Rattle.evaluator.specs.Cycle.{net, blockStep, wires, newBlock, wordsRead, newState, newOutputs, newFindings, enters, findingFor, finding, findingCount}
-use Rattle.evaluator.specs.Answer.{Lent, Left, stateOk, sizesOk, recordOk, unless, orLater, refusalAfter9, refusal, cycleOf}
+use Rattle.evaluator.specs.Answer.{Lent, Left, stateOk, refusal, cycleOf}
 use Rattle.evaluator.specs.Demands.{Cycled, Demand2}
 use Rattle.evaluator.proofs.Agree.{fixed, unique}
 use Rattle.evaluator.proofs.Checked.{new-formed}
-use Rattle.evaluator.proofs.Calls.{number-zero, call-refused, call-done}
+use Rattle.evaluator.proofs.Calls.{call-refused, call-done, Passed, passed}
 use Rattle.evaluator.proofs.Running.{finding-length}
 use Rattle.evaluator.proofs.FreshFormed.{fresh-state-ok}
 
@@ -127,26 +126,6 @@ module _ (w : ℕ) (hit : ℕ → Bool) (f : ℕ → List ℕ) (long : (b : ℕ)
 -- ---- an accepted call
 
 module _ (F R : List ℕ) (L : Lent) where
-  -- what an accepted call has passed
-  record Passed : Type 0 where
-    file : verdict F ≡ Accepted
-    state : stateOk F (L .state) ≡ true
-
-  later-zero : (n later : ℕ) → orLater n later ≡ 0 → (n ≡ 0) × (later ≡ 0)
-  later-zero zero later e = (refl, e)
-  later-zero (suc n) later e = absurd (omega arith)
-
-  second : (a b c : Bool) → unless a 10 (unless b 11 (unless c 12 0)) ≡ 0 → b ≡ true
-  second true true c e = refl
-  second true false c e = absurd (omega arith)
-  second false b c e = absurd (omega arith)
-
-  passed : refusal F R L ≡ 0 → Passed
-  unfolding refusal refusalAfter9
-  passed e =
-      let h = later-zero (numberOf (verdict F)) (refusalAfter9 F R L) e in
-      record { file = number-zero (verdict F) (h .0); state = second (sizesOk F L) (stateOk F (L .state)) (recordOk F R) (h .1) }
-
   -- an answer that carries a count is no refusal
   isCount : Answer → Bool
   isCount (Findings k) = true
@@ -198,11 +177,11 @@ module _ (F R : List ℕ) (L : Lent) where
       counted : k ≡ hits (blockCount F) (enters F R (L .state))
       counted = ap countIn (sym e ∙ ap (λ (l : Left). l .answer) done)
 
-      p : Passed
-      p = passed zero-number
+      p : Passed F R L
+      p = passed F R L zero-number
 
       good : Good F
-      good = accepted F (p .file)
+      good = accepted F (number-zero (verdict F) (p .number))
 
 pub demand2 : Demand2
 demand2 = record { cycles = cycled; fresh = fresh-state-ok }

@@ -2,7 +2,7 @@
 -- definitions. The first ends in RUN with 30000 + 2767 = 32767 and no finding, the second in ERROR with the one finding that the paper prints. Assumes nothing.
 use Prim.Native.Nat.{ℕ}
 use mathlib.Core.Path.{_≡_, refl, ap, _∙_}
-use mathlib.Core.List.{List, [], _∷_, _++_}
+use mathlib.Core.List.{List, _∷_, _++_}
 use lib.ListN.{replicate}
 use Rattle.wire.specs.Words.{bytes2, bytes4}
 use Rattle.wire.specs.Records.{slot, gather}
@@ -11,7 +11,7 @@ use Rattle.number.specs.Types.{typeOf, value, inside}
 use Rattle.number.specs.Results.{exact, settled, outcome, textOf}
 use Rattle.casefile.specs.declared.Verdict.{Verdict}
 use Rattle.casefile.specs.Layout.{bodyStart, bodySize, device, groupCount, runLinked, inputCount, inputRecord, blockCount, blockRecord, parametersIn, linkIn, outputCount, outputRecord, recordSize, recordOf}
-use Rattle.casefile.specs.Refusal.{verdict, numberOf}
+use Rattle.casefile.specs.Refusal.{numberOf}
 use Rattle.casefile.specs.Listing.{listing}
 use Rattle.casefile.proofs.Listing.{listing-accepted}
 use Rattle.block.specs.State as blocks

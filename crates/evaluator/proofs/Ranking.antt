@@ -3,26 +3,37 @@ use mathlib.Core.Path.{_≡_, refl, sym, ap, _∙_}
 use mathlib.Core.List.{List}
 use Prim.Native.Nat.{ℕ, _+_, _%_, _≤_, _<_}
 use native.Mathlib.Nat.{not-suc-le-zero, mod-eq-of-lt}
-use native.Mathlib.Decide.{ℕ-discrete}
+use native.Mathlib.Decide.{decLt, ℕ-discrete}
 use native.Mathlib.Omega.{arith}
-use lib.ListN.{length, set, replicate, length-set}
+use lib.Dec.{ltb}
+use lib.ListN.{length, set, replicate, length-set, getD-replicate}
 use lib.Seq.{getD-set-same, getD-set-other}
 use Rattle.wire.specs.Words.{byteAt}
-use Rattle.casefile.specs.Layout.{orderOf}
+use borrow.Author.Tests.{lt-ltb, le-ltb}
+use Rattle.casefile.specs.Layout.{blockCount, orderOf}
 use Rattle.casefile.specs.Rules.{blockAt}
-use Rattle.evaluator.specs.Fits.{Ordered, Ranked}
+use Rattle.casefile.proofs.Accepted.{Good, block-at-lt, block-at-is}
+use Rattle.block.specs.Step.{onlyIf}
+use Rattle.evaluator.specs.Fits.{Ordered, Ranked, orderList}
+use Rattle.evaluator.proofs.Deciding.{row-length, row-at, row-is}
 
 pub record Ranking (F : List ℕ) (n : ℕ) (K : List ℕ) (b : ℕ) : Type 0 where
   pub within : b ≤ n
   pub long : length K ≡ 64
   pub each : (a : ℕ) → a < b → byteAt K (orderOf F a) ≡ a
+  pub past : (e : ℕ) → e < 64 → n ≤ e → byteAt K e ≡ 0
 
 pub ranking-start : (F : List ℕ) (n : ℕ) → Ranking F n (replicate 64 0) 0
-ranking-start F n = record { within = omega arith; long = refl; each = λ a l. absurd (not-suc-le-zero l) }
+ranking-start F n = record { within = omega arith; long = refl; each = λ a l. absurd (not-suc-le-zero l); past = λ e l k. getD-replicate 64 e 0 0 l }
 
-module _ (F : List ℕ) (start n : ℕ) (o : Ordered F start n) where
+module _ (F B : List ℕ) (n : ℕ) (o : Ordered F B n) where
   pub ranking-turn : (K : List ℕ) (b e v : ℕ) → Ranking F n K b → b < n → e ≡ orderOf F b → v ≡ b % 256 → Ranking F n (set K e v) (b + 1)
-  ranking-turn K b e v r l p q = record { within = omega arith; long = length-set K e v ∙ r .long; each = λ a k. go a k (ℕ-discrete a b) }
+  ranking-turn K b e v r l p q = record {
+    within = omega arith;
+    long = length-set K e v ∙ r .long;
+    each = λ a k. go a k (ℕ-discrete a b);
+    past = λ i k m. getD-set-other K e i v 0 (λ x. omega (arith, x, p, o .below b l)) ∙ r .past i k m;
+  }
     where
       inside : e < length K
       inside = omega (arith, r .long, p, o .below b l, o .few)
@@ -34,10 +45,21 @@ module _ (F : List ℕ) (start n : ℕ) (o : Ordered F start n) where
       go a k (no d) =
           getD-set-other K e (orderOf F a) v 0 (λ x. o .apart a b (omega (arith, d)) l d (x ∙ p)) ∙ r .each a (omega (arith, d))
 
-  pub ranking-end : (K : List ℕ) → Ranking F n K n → Ranked F n K
-  ranking-end K r = record { long = r .long; each = λ e l. at e (o .lands e l .0) (o .lands e l .1) }
+  pub ranking-end : (K : List ℕ) → Ranking F n K n → K ≡ orderList F
+  unfolding orderList
+  ranking-end K r = row-is 64 (λ e. onlyIf (ltb e (blockCount F)) (blockAt F e)) K (r .long) (λ e l. go e l (decLt e n))
     where
-      at : (e : ℕ) → blockAt F e < n → orderOf F (blockAt F e) ≡ e → (byteAt K e < n) × (orderOf F (byteAt K e) ≡ e)
-      at e l q =
-          let here : byteAt K e ≡ blockAt F e = ap (byteAt K) (sym q) ∙ r .each (blockAt F e) l in
-          (rw here l, ap (orderOf F) here ∙ q)
+      go : (e : ℕ) → e < 64 → Dec (e < n) → byteAt K e ≡ onlyIf (ltb e (blockCount F)) (blockAt F e)
+      go e l (yes k) = rw (lt-ltb e (blockCount F) (omega (arith, k, o .count))) (ap (byteAt K) (sym (o .lands e k .1)) ∙ r .each (blockAt F e) (o .lands e k .0))
+      go e l (no k) = rw (le-ltb e (blockCount F) (omega (arith, k, o .count))) (r .past e l (omega (arith, k)))
+
+-- the list has the blocks of an accepted project
+pub order-ranked : (F : List ℕ) → Good F → Ranked F (blockCount F) (orderList F)
+unfolding orderList
+order-ranked F g = record {
+  long = row-length 64 (λ e. onlyIf (ltb e (blockCount F)) (blockAt F e));
+  each = λ e l. (rw (here e l) (block-at-lt g e l), ap (orderOf F) (here e l) ∙ block-at-is g e l);
+}
+  where
+    here : (e : ℕ) → e < blockCount F → byteAt (orderList F) e ≡ blockAt F e
+    here e l = row-at 64 (λ e. onlyIf (ltb e (blockCount F)) (blockAt F e)) e (omega (arith, g .blocks .few)) ∙ rw (lt-ltb e (blockCount F) l)

@@ -4,12 +4,14 @@ use mathlib.Core.List.{List}
 use Prim.Native.Nat.{ℕ, zero, suc, _+_, _-_, _*_, _%_, _^_, _≤_, _<_}
 use native.Mathlib.Nat.{mod-eq-of-lt}
 use native.Mathlib.Omega.{arith}
-use lib.ListN.{take, drop}
+use lib.ListN.{length, take, drop}
 use lib.Pow.{pow-mono}
 use Rattle.wire.specs.Words.{le32}
 use Rattle.wire.specs.Records.{slot}
+use Rattle.wire.proofs.Records.{word-within}
 use Rattle.casefile.specs.declared.Source.the-variants.{External, Output}
-use Rattle.casefile.specs.Layout.{bodyB, bodyStart, blockRecord, kindIn}
+use Rattle.casefile.specs.Layout.{bodyB, bodyOf, groupCount, inputCount, blockCount, blockRecord, kindIn, recordSize}
+use Rattle.casefile.proofs.Accepted.{Good, blocks-long, block-within}
 use Rattle.block.specs.State.{decode}
 use Rattle.block.specs.Inputs.{bitsFrom}
 use Rattle.block.specs.Shows.{shows}
@@ -17,39 +19,66 @@ use Rattle.block.specs.declared.BlockState.{BlockState}
 use Rattle.evaluator.specs.Net.{reads}
 use Rattle.evaluator.specs.Groups.{inputWord, cell}
 use Rattle.evaluator.specs.Cycle.{wires, portShows}
-use Rattle.evaluator.specs.Fits.{Placed}
+use Rattle.evaluator.specs.Fits.{Standing}
 
--- block b's record in the file
-pub record-at : (F : List ℕ) (start : ℕ) → start ≡ bodyStart F bodyB → (b : ℕ) → slot start 40 b F ≡ blockRecord F b
-unfolding blockRecord
-record-at F start e b = ap (λ (k : ℕ). slot k 40 b F) e
+-- the body B has the records of all blocks
+module _ {F B : List ℕ} (g : Good F) (e : B ≡ bodyOf F bodyB) where
+  pub records-long : length B ≡ 40 * blockCount F
+  records-long = ap length e ∙ blocks-long g
 
-module _ (F R S : List ℕ) (start h : ℕ) (at : Placed F start h) where
-  pub record-is : (b : ℕ) → slot start 40 b F ≡ blockRecord F b
-  record-is b = record-at F start (at .begins) b
+  pub record-in : (b : ℕ) → b < blockCount F → take 40 (drop (40 * b) B) ≡ blockRecord F b
+  record-in b l = ap (λ (y : List ℕ). take 40 (drop (40 * b) y)) e ∙ block-within g b l
 
-  -- its bytes in the state
-  pub cell-is : (b : ℕ) → take 16 (drop (h + 16 * b) S) ≡ cell F S b
-  unfolding cell slot
-  cell-is b = ap (λ (k : ℕ). take 16 (drop (k + 16 * b) S)) (at .heads)
+-- its bytes in the state
+pub cell-is : (F S : List ℕ) (h : ℕ) → h ≡ groupCount F → (b : ℕ) → take 16 (drop (h + 16 * b) S) ≡ cell F S b
+unfolding cell slot
+cell-is F S h e b = ap (λ (k : ℕ). take 16 (drop (k + 16 * b) S)) e
+
+module _ (F R B S : List ℕ) (h : ℕ) (at : Standing F B S h) where
+  -- block b's record and its bytes are there
+  pub record-there : (b : ℕ) → b < blockCount F → 40 * b + 40 ≤ length B
+  record-there b l = omega (arith, at .long)
+
+  pub cell-there : (b : ℕ) → b < blockCount F → h + 16 * b + 16 ≤ length S
+  cell-there b l = omega (arith, at .state)
+
+  -- so are group g's byte of the record and the word of external input i
+  pub control-there : (g : ℕ) → length R ≡ recordSize F → g < h → 2 + g < length R
+  unfolding recordSize
+  control-there g e l = omega (arith, at .heads)
+
+  pub word-there : (i : ℕ) → length R ≡ recordSize F → i < inputCount F → 2 + h + 4 * i + 4 ≤ length R
+  unfolding recordSize
+  word-there i e l = omega (arith, at .heads)
 
   -- an external input
-  pub external-word : (i x : ℕ) → x ≡ le32 R (2 + h + 4 * i) → x ≡ reads (wires F R) (cell F S) (External i)
+  pub external-word : (i x : ℕ) (T : List ℕ) → T ≡ take 4 (drop (2 + h + 4 * i) R) → x ≡ le32 T 0 → x ≡ reads (wires F R) (cell F S) (External i)
   unfolding wires inputWord
-  external-word i x e = e ∙ ap (λ (k : ℕ). le32 R (2 + k + 4 * i)) (at .heads)
+  external-word i x T t e = e ∙ ap (λ (u : List ℕ). le32 u 0) t ∙ word-within (2 + h + 4 * i) R ∙ ap (λ (k : ℕ). le32 R (2 + k + 4 * i)) (at .heads)
 
   -- a port of block a; Q is the block's record and T its state's bytes, as the code has them
-  pub shown-word : (a q x k : ℕ) (Q T : List ℕ) (c : BlockState) → Q ≡ slot start 40 a F → k ≡ kindIn Q → T ≡ take 16 (drop (h + 16 * a) S) → c ≡ decode T →
+  pub shown-word : (a q x k : ℕ) (Q T : List ℕ) (c : BlockState) → a < blockCount F → Q ≡ take 40 (drop (40 * a) B) → k ≡ kindIn Q → T ≡ take 16 (drop (h + 16 * a) S) → c ≡ decode T →
       x ≡ shows k q (c .code) (c .output) → x ≡ portShows F a q (cell F S a)
-  shown-word a q x k Q T c r s t u v =
-      v ∙ (λ i. shows ((s ∙ ap kindIn (r ∙ record-is a)) i) q (same i .code) (same i .output))
+  shown-word a q x k Q T c l r s t u v =
+      v ∙ (λ i. shows ((s ∙ ap kindIn (r ∙ at .each a l)) i) q (same i .code) (same i .output))
     where
       same : c ≡ decode (cell F S a)
-      same = u ∙ ap decode (t ∙ cell-is a)
+      same = u ∙ ap decode (t ∙ cell-is F S h (at .heads) a)
 
   pub output-word : (a q x : ℕ) → x ≡ portShows F a q (cell F S a) → x ≡ reads (wires F R) (cell F S) (Output a q)
   unfolding wires
   output-word a q x e = e
+
+-- another state of the same size
+pub standing-on : {F B S T : List ℕ} {h n : ℕ} → Standing F B S h → length T ≡ h + 16 * n → n ≡ blockCount F → Standing F B T h
+standing-on {h = h} at e c = record {
+  each = at .each;
+  long = at .long;
+  fewBlocks = at .fewBlocks;
+  heads = at .heads;
+  few = at .few;
+  state = e ∙ ap (λ (k : ℕ). h + 16 * k) c;
+}
 
 -- ---- bits
 

@@ -74,11 +74,11 @@ pub record Held (F R H S₀ : List ℕ) (h n : ℕ) (S D : List ℕ) (some : Boo
   pub notes : Staged 0 16 n (orderOf F) (λ b. replicate 16 0) (slotWith F R H S₀) e D
   pub none : some ≡ false → (b : ℕ) → b < n → orderOf F b < e → entersWith F R H S₀ b ≡ false
 
-module _ (F R H K S₀ D₀ : List ℕ) (start h n : ℕ) (r : Running F K S₀ D₀ start h n) where
+module _ (F R H B K S₀ D₀ : List ℕ) (h n : ℕ) (r : Running F R H B K S₀ D₀ h n) where
   -- the state is cut behind its group bytes
   cell-slot : (S : List ℕ) (b : ℕ) → slot h 16 b S ≡ cell F S b
   unfolding cell
-  cell-slot S b = ap (λ (k : ℕ). slot k 16 b S) (r .placed .heads)
+  cell-slot S b = ap (λ (k : ℕ). slot k 16 b S) (r .standing .heads)
 
   pub ran-length : (b : ℕ) → b < n → length (ranWith F R H S₀ b) ≡ 16
   unfolding ranWith net
@@ -90,7 +90,7 @@ module _ (F R H K S₀ D₀ : List ℕ) (start h n : ℕ) (r : Running F K S₀ 
   held-start = record {
     within = omega arith;
     head = refl;
-    cells = staged-start h 16 n (orderOf F) (cell F S₀) (ranWith F R H S₀) S₀ (r .state) (λ b l. cell-slot S₀ b);
+    cells = staged-start h 16 n (orderOf F) (cell F S₀) (ranWith F R H S₀) S₀ (r .standing .state ∙ ap (λ (k : ℕ). h + 16 * k) (sym (r .count))) (λ b l. cell-slot S₀ b);
     notes =
         staged-start 0 16 n (orderOf F) (λ b. replicate 16 0) (slotWith F R H S₀) D₀
         (ap length (r .clean) ∙ length-replicate {A = ℕ} (16 * n) 0 ∙ sym (zero-add (16 * n)))
@@ -106,7 +106,7 @@ module _ (F R H K S₀ D₀ : List ℕ) (start h n : ℕ) (r : Running F K S₀ 
 
     linked : (p a q : ℕ) → net F R (byteAt H) .wires .link b p ≡ Output a q → a < blockCount F
     unfolding net wires
-    linked p a q g = rw (← r .count) (r .closed b p a q l g)
+    linked p a q g = r .due b l .linked .links p .output a q g
 
     others : (a : ℕ) → a < n → a ≢ b → orderOf F a ≢ e
     others a q d g = r .apart a b q l d (g ∙ sym at)

@@ -9,7 +9,7 @@ use lib.ListN.{take, drop}
 use lib.Seq.{sets}
 use Rattle.wire.specs.Words.{byteAt, le16}
 use Rattle.wire.proofs.Endian.{bytes-word2}
-use Rattle.casefile.specs.Layout.{kindIn, groupIn, kindOf, parametersIn, parametersOf, blockRecord}
+use Rattle.casefile.specs.Layout.{groupCount, kindIn, groupIn, kindOf, parametersIn, parametersOf, blockRecord}
 use Rattle.block.specs.State.{STOP, RESET, plain, inError, decode, encode}
 use Rattle.block.specs.Inputs.{firstRead, secondRead}
 use lib.Dec.{eqb}
@@ -20,7 +20,7 @@ use Rattle.block.specs.declared.BlockState.{BlockState}
 use Rattle.evaluator.specs.Net.{words}
 use Rattle.evaluator.specs.Groups.{cell, codeOf}
 use Rattle.evaluator.specs.Cycle.{wires, blockStep, entersCode, entersFrom, findingFor}
-use Rattle.evaluator.specs.Fits.{Placed, Turning, wordsOf, turned, entering, noted}
+use Rattle.evaluator.specs.Fits.{Turning, wordsOf, turned, entering, noted}
 use Rattle.evaluator.proofs.Reading.{cell-is}
 
 -- what is read of the bytes of a state is what they were made of
@@ -43,8 +43,9 @@ module _ (F R S Q : List ℕ) (b : ℕ) (here : Q ≡ blockRecord F b) where
   second-is y e = e ∙ ap (λ (q : List ℕ). secondRead (byteAt q 0) (parametersIn q) (wordsOf F R S q)) here
 
 -- what the code has: the block's record Q, its kind, parameters, old state and inputs, and the step's result
-pub record Made (F R S Q : List ℕ) (start h ph b : ℕ) (ack : Bool) (k ms x y : ℕ) (P T bytes : List ℕ) (old new : BlockState) : Type 0 where
-  pub at : Placed F start h
+pub record Made (F R S Q : List ℕ) (h ph b : ℕ) (ack : Bool) (k ms x y : ℕ) (P T bytes : List ℕ) (old new : BlockState) : Type 0 where
+  pub heads : h ≡ groupCount F
+  pub few : b < 64
   pub turning : Turning F R Q b ack
   pub kind : k ≡ kindIn Q
   pub parameters : P ≡ parametersIn Q
@@ -56,10 +57,10 @@ pub record Made (F R S Q : List ℕ) (start h ph b : ℕ) (ack : Bool) (k ms x y
   pub stepped : new ≡ stepOf k P ph ack ms x y old
   pub packed : bytes ≡ encode new
 
-module _ {F R S Q : List ℕ} {start h ph b : ℕ} {ack : Bool} {k ms x y : ℕ} {P T bytes : List ℕ} {old new : BlockState}
-    (m : Made F R S Q start h ph b ack k ms x y P T bytes old new) where
+module _ {F R S Q : List ℕ} {h ph b : ℕ} {ack : Bool} {k ms x y : ℕ} {P T bytes : List ℕ} {old new : BlockState}
+    (m : Made F R S Q h ph b ack k ms x y P T bytes old new) where
   old-is : old ≡ decode (cell F S b)
-  old-is = m .loaded ∙ ap decode (m .part ∙ cell-is F R S start h (m .at) b)
+  old-is = m .loaded ∙ ap decode (m .part ∙ cell-is F S h (m .heads) b)
 
   pub turned-is : bytes ≡ turned F R ph S b
   unfolding turned blockStep
@@ -89,7 +90,7 @@ module _ {F R S Q : List ℕ} {start h ph b : ℕ} {ack : Bool} {k ms x y : ℕ}
       (ef ∙ (λ i. findingBytes ((en ∙ mod-eq-of-lt small) i) ((eg ∙ ap groupIn (m .turning .here)) i) ((m .kind ∙ ap kindIn (m .turning .here)) i) (told i) (m .first i) (m .second i))))
     where
       small : b < 256
-      small = omega (arith, m .turning .few)
+      small = omega (arith, m .few)
 
       told : d ≡ decode (turned F R ph S b) .diagnosis
       told = ed ∙ sym (diagnosis-back new (rw (← ed) l)) ∙ (λ i. decode (new-is i) .diagnosis)

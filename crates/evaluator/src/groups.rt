@@ -4,22 +4,24 @@ ghost use mathlib.Core.List.{_∷_, [], _++_};
 ghost use Prim.Native.Nat.{_+_, _*_, _≤_, _<_};
 ghost use lib.ListN.{length, drop};
 ghost use Rattle.wire.specs.Records.{gather};
-ghost use Rattle.casefile.specs.Layout.{bodyG, bodyStart};
 ghost use Rattle.evaluator.specs.Groups.{isHeld, isAcknowledged, isPending, groupNext, phaseFrom, runsWith, newGroup};
-ghost use Rattle.evaluator.specs.Fits.{Placed, errorList, Grouped, Decided};
+ghost use Rattle.evaluator.specs.Fits.{Standing, errorList, Grouped, Linking, Decided};
+use crate::parts::part_at;
+use block::STATE_SIZE;
 
 // A byte for each of eight groups: 1 where a block of the group is in ERROR.
-pub fn error_groups(file: &[u8], start: usize, h: usize, n: usize, state: &[u8]) -> [u8; 8]
-    requires { ⌜ Placed (now file) start h ⌝ }
+pub fn error_groups(file: &[u8], blocks: &[u8], h: usize, n: usize, state: &[u8]) -> [u8; 8]
+    requires { ⌜ Standing (now file) (now blocks) (now state) h ⌝ }
     requires { ⌜ Grouped (now file) n ⌝ }
     ensures { λ r. ⌜ r ≡ errorList (now (file .entry)) (now (state .entry)) ⌝ }
 {
     let mut marks = [0u8; 8];
     let mut b = 0;
     while b < n {
-        let c = block::load(wire::part(state, h + 16 * b, 16));
+        let c = block::load(part_at(state, h + STATE_SIZE * b, STATE_SIZE));
         if c.code == block::ERROR {
-            let g = casefile::group_of(casefile::block_record(file, start, b)) as usize;
+            let r = part_at(blocks, casefile::BLOCK_SIZE * b, casefile::BLOCK_SIZE);
+            let g = casefile::group_of(r) as usize;
             marks[g] = 1;
         }
         b += 1;
@@ -87,13 +89,13 @@ fn runs_with(linked: u8, control: u8) -> bool
 // The groups decide: their bytes in the state are the new ones, and the answer is their phases.
 pub fn decide(
     file: &[u8],
-    start: usize,
+    groups: &[u8],
     h: usize,
     rec: &[u8],
     errors: &[u8],
     state: &mut [u8],
 ) -> [u8; 8]
-    requires { ⌜ (start ≡ bodyStart (now file) bodyG) × (h ≤ 8) ⌝ }
+    requires { ⌜ Linking (now file) (now groups) h ⌝ }
     requires { ⌜ (h ≤ length (now state)) × (now errors ≡ errorList (now file) (now state)) ⌝ }
     ensures left { λ _. ⌜ now (state .exit) ≡ gather h (λ g. newGroup (now (file .entry)) (now (rec .entry)) (now (state .entry)) g ∷ []) ++ drop h (now (state .entry)) ⌝ }
     ensures phases { λ r. ⌜ Decided (now (file .entry)) (now (rec .entry)) (now (state .entry)) h r ⌝ }
@@ -104,7 +106,7 @@ pub fn decide(
         let control = wire::byte(rec, 2 + g);
         let pending = is_pending(control, wire::byte(errors, g) == 1);
         let new = group_next(pending, crate::turns::err_ack(control), state[g]);
-        let run = runs_with(casefile::run_linked(file, start, g), control);
+        let run = runs_with(casefile::run_linked(groups, 0, g), control);
         phases[g] = phase_from(run, new);
         state[g] = new;
         g += 1;

@@ -1,16 +1,19 @@
 // The blocks by execution number.
+ghost use mathlib.Core.Path.{_≡_};
 ghost use Prim.Native.Nat.{_<_};
-ghost use Rattle.evaluator.specs.Fits.{Ordered, Ranked};
+ghost use Rattle.evaluator.specs.Fits.{Ordered, orderList};
+use crate::parts::part_at;
 
-// The number of the block with the execution number e, at place e, for the n blocks.
-pub fn ranks(file: &[u8], start: usize, n: usize) -> [u8; 64]
-    requires { ⌜ Ordered (now file) start n ⌝ }
-    ensures { λ r. ⌜ Ranked (now (file .entry)) n r ⌝ }
+// The number of the block with the execution number e, at place e, and 0 past the n blocks.
+pub fn ranks(file: &[u8], blocks: &[u8], n: usize) -> [u8; 64]
+    requires { ⌜ Ordered (now file) (now blocks) n ⌝ }
+    ensures { λ r. ⌜ r ≡ orderList (now (file .entry)) ⌝ }
 {
     let mut at = [0u8; 64];
     let mut b = 0;
     while b < n {
-        let e = casefile::order_of(casefile::block_record(file, start, b)) as usize;
+        let r = part_at(blocks, casefile::BLOCK_SIZE * b, casefile::BLOCK_SIZE);
+        let e = casefile::order_of(r) as usize;
         at[e] = (b % 256) as u8;
         b += 1;
     }

@@ -3,60 +3,73 @@ ghost use mathlib.Core.Path.{_≡_};
 ghost use mathlib.Core.Bool.{false};
 ghost use mathlib.Core.List.{_++_};
 ghost use Prim.Native.Nat.{ℕ, _+_, _*_, _≤_, _<_};
-ghost use lib.ListN.{take};
+ghost use lib.ListN.{length, take};
 ghost use lib.Seq.{sets};
 ghost use Rattle.wire.specs.Words.{byteAt};
 ghost use Rattle.wire.specs.Records.{gather};
-ghost use Rattle.casefile.specs.Layout.{parametersIn};
+ghost use Rattle.casefile.specs.Layout.{blockCount, recordSize, parametersIn};
 ghost use Rattle.block.specs.Inputs.{bitsFrom, firstRead, secondRead};
 ghost use Rattle.evaluator.specs.Net.{reads};
 ghost use Rattle.evaluator.specs.Groups.{cell, isErrAck};
 ghost use Rattle.evaluator.specs.Cycle.{wires, portShows, entersCode};
-ghost use Rattle.evaluator.specs.Fits.{Placed, wordsOf, Turning, phaseAt, turned, entering, noted, Running, ranWith, entersWith, slotWith};
+ghost use Rattle.evaluator.specs.Fits.{Standing, Named, Linked, Due, wordsOf, Turning, phaseAt, turned, entering, noted, Running, ranWith, entersWith, slotWith};
+use crate::WORD_SIZE;
+use crate::parts::byte_at;
+use crate::parts::part_at;
+use crate::parts::put_at;
 use block::BlockState;
+use block::FINDING_SIZE;
+use block::STATE_SIZE;
 use casefile::Source;
 
 // What port q of block a shows in the state.
-pub fn port_shows(file: &[u8], start: usize, h: usize, state: &[u8], a: u8, q: u8) -> u32
-    requires { ⌜ Placed (now file) start h ⌝ }
+pub fn port_shows(file: &[u8], blocks: &[u8], h: usize, state: &[u8], a: u8, q: u8) -> u32
+    requires { ⌜ Standing (now file) (now blocks) (now state) h ⌝ }
+    requires { ⌜ a < blockCount (now file) ⌝ }
     ensures { λ r. ⌜ r ≡ portShows (now (file .entry)) a q (cell (now (file .entry)) (now (state .entry)) a) ⌝ }
 {
     let b = a as usize;
-    let kind = casefile::kind_of(casefile::block_record(file, start, b));
-    let c = block::load(wire::part(state, h + 16 * b, 16));
+    let kind = casefile::kind_of(part_at(blocks, casefile::BLOCK_SIZE * b, casefile::BLOCK_SIZE));
+    let c = block::load(part_at(state, h + STATE_SIZE * b, STATE_SIZE));
     block::shows(kind, q, c.code, c.output)
 }
 
 // What an input port reads: nothing, the record's input, or what a block's port shows in the state.
 pub fn port_word(
     file: &[u8],
-    start: usize,
+    blocks: &[u8],
     rec: &[u8],
     h: usize,
     state: &[u8],
     source: Source,
 ) -> u32
-    requires { ⌜ Placed (now file) start h ⌝ }
+    requires { ⌜ Standing (now file) (now blocks) (now state) h ⌝ }
+    requires { ⌜ length (now rec) ≡ recordSize (now file) ⌝ }
+    requires { ⌜ Named (now file) source ⌝ }
     ensures { λ r. ⌜ r ≡ reads (wires (now (file .entry)) (now (rec .entry))) (cell (now (file .entry)) (now (state .entry))) source ⌝ }
 {
     match source {
         Source::Nothing => 0,
-        Source::External(i) => wire::read32(rec, 2 + h + 4 * (i as usize)),
-        Source::Output(a, q) => port_shows(file, start, h, state, a, q),
+        Source::External(i) => wire::read32(
+            part_at(rec, 2 + h + WORD_SIZE * (i as usize), WORD_SIZE),
+            0,
+        ),
+        Source::Output(a, q) => port_shows(file, blocks, h, state, a, q),
     }
 }
 
 // The bits of the n first input ports of the block whose record is r.
 pub fn port_bits(
     file: &[u8],
-    start: usize,
+    blocks: &[u8],
     r: &[u8],
     rec: &[u8],
     h: usize,
     state: &[u8],
     n: u8,
 ) -> u32
-    requires { ⌜ Placed (now file) start h ⌝ }
+    requires { ⌜ Standing (now file) (now blocks) (now state) h ⌝ }
+    requires { ⌜ Linked (now file) (now rec) (now r) ⌝ }
     requires { ⌜ n ≤ 8 ⌝ }
     ensures { λ x. ⌜ x ≡ bitsFrom (wordsOf (now (file .entry)) (now (rec .entry)) (now (state .entry)) (now (r .entry))) n 0 ⌝ }
 {
@@ -64,32 +77,34 @@ pub fn port_bits(
     let mut p = n;
     while 0 < p {
         p -= 1;
-        let word = port_word(file, start, rec, h, state, casefile::source_of(r, p));
+        let word = port_word(file, blocks, rec, h, state, casefile::source_of(r, p));
         bits = block::bit_below(word, bits);
     }
     bits
 }
 
 // The two words that the block whose record is r reads.
-pub fn first_read(file: &[u8], start: usize, r: &[u8], rec: &[u8], h: usize, state: &[u8]) -> u32
-    requires { ⌜ Placed (now file) start h ⌝ }
+pub fn first_read(file: &[u8], blocks: &[u8], r: &[u8], rec: &[u8], h: usize, state: &[u8]) -> u32
+    requires { ⌜ Standing (now file) (now blocks) (now state) h ⌝ }
+    requires { ⌜ Linked (now file) (now rec) (now r) ⌝ }
     ensures { λ x. ⌜ x ≡ firstRead (byteAt (now (r .entry)) 0) (parametersIn (now (r .entry))) (wordsOf (now (file .entry)) (now (rec .entry)) (now (state .entry)) (now (r .entry))) ⌝ }
 {
     let kind = casefile::kind_of(r);
     if kind == kind::DECOUPLE {
-        return port_bits(file, start, r, rec, h, state, 8);
+        return port_bits(file, blocks, r, rec, h, state, 8);
     }
     if kind == kind::TWOHAND {
         return block::effective(
             casefile::parameters_of(r),
-            port_bits(file, start, r, rec, h, state, 4),
+            port_bits(file, blocks, r, rec, h, state, 4),
         );
     }
-    port_word(file, start, rec, h, state, casefile::source_of(r, 0))
+    port_word(file, blocks, rec, h, state, casefile::source_of(r, 0))
 }
 
-pub fn second_read(file: &[u8], start: usize, r: &[u8], rec: &[u8], h: usize, state: &[u8]) -> u32
-    requires { ⌜ Placed (now file) start h ⌝ }
+pub fn second_read(file: &[u8], blocks: &[u8], r: &[u8], rec: &[u8], h: usize, state: &[u8]) -> u32
+    requires { ⌜ Standing (now file) (now blocks) (now state) h ⌝ }
+    requires { ⌜ Linked (now file) (now rec) (now r) ⌝ }
     ensures { λ x. ⌜ x ≡ secondRead (byteAt (now (r .entry)) 0) (parametersIn (now (r .entry))) (wordsOf (now (file .entry)) (now (rec .entry)) (now (state .entry)) (now (r .entry))) ⌝ }
 {
     let kind = casefile::kind_of(r);
@@ -99,7 +114,7 @@ pub fn second_read(file: &[u8], start: usize, r: &[u8], rec: &[u8], h: usize, st
     if kind == kind::TWOHAND {
         return 0;
     }
-    port_word(file, start, rec, h, state, casefile::source_of(r, 1))
+    port_word(file, blocks, rec, h, state, casefile::source_of(r, 1))
 }
 
 // Whether a group's byte of the record has ErrAck.
@@ -126,7 +141,7 @@ fn diagnosis_in(c: BlockState) -> u16
 // The turn of block b, whose record is r, where it reads its inputs.
 fn reading_turn(
     file: &[u8],
-    start: usize,
+    blocks: &[u8],
     r: &[u8],
     rec: &[u8],
     h: usize,
@@ -136,35 +151,36 @@ fn reading_turn(
     findings: &mut [u8],
     b: usize,
 ) -> bool
-    requires { ⌜ Placed (now file) start h ⌝ }
+    requires { ⌜ Standing (now file) (now blocks) (now state) h ⌝ }
+    requires { ⌜ Linked (now file) (now rec) (now r) ⌝ }
     requires { ⌜ Turning (now file) (now rec) (now r) b ack ⌝ }
     ensures left { λ _. ⌜ now (state .exit) ≡ sets (now (state .entry)) (h + 16 * b) (turned (now (file .entry)) (now (rec .entry)) phase (now (state .entry)) b) ⌝ }
     ensures told { λ _. ⌜ now (findings .exit) ≡ noted (now (file .entry)) (now (rec .entry)) phase (now (state .entry)) b (now (findings .entry)) ⌝ }
     ensures answered { λ x. ⌜ x ≡ entering (now (file .entry)) (now (rec .entry)) phase (now (state .entry)) b ⌝ }
 {
-    let at = h + 16 * b;
+    let at = h + STATE_SIZE * b;
     let kind = casefile::kind_of(r);
-    let x = first_read(file, start, r, rec, h, state);
-    let y = second_read(file, start, r, rec, h, state);
-    let old = block::load(wire::part(state, at, 16));
+    let x = first_read(file, blocks, r, rec, h, state);
+    let y = second_read(file, blocks, r, rec, h, state);
+    let old = block::load(part_at(state, at, STATE_SIZE));
     let ms = wire::read16(rec, 0);
     let new = block::step(kind, casefile::parameters_of(r), phase, ack, ms, x, y, old);
     let bytes = block::pack(new);
-    wire::put(state, at, &bytes);
+    put_at(state, at, &bytes);
     if !entered(old.code, new.code) {
         return false;
     }
     let number = (b % 256) as u8;
     let diagnosis = diagnosis_in(new);
     let finding = block::finding(number, casefile::group_of(r), kind, diagnosis, x, y);
-    wire::put(findings, 16 * b, &finding);
+    wire::put(findings, FINDING_SIZE * b, &finding);
     true
 }
 
 // Block b's turn. Outside phase RUN most blocks do not read their inputs.
 pub fn turn(
     file: &[u8],
-    start: usize,
+    blocks: &[u8],
     rec: &[u8],
     h: usize,
     phases: &[u8],
@@ -172,23 +188,23 @@ pub fn turn(
     findings: &mut [u8],
     b: usize,
 ) -> bool
-    requires { ⌜ Placed (now file) start h ⌝ }
-    requires { ⌜ b < 64 ⌝ }
+    requires { ⌜ Standing (now file) (now blocks) (now state) h ⌝ }
+    requires { ⌜ Due (now file) (now rec) (now phases) b ⌝ }
     ensures left { λ _. ⌜ now (state .exit) ≡ sets (now (state .entry)) (h + 16 * b) (turned (now (file .entry)) (now (rec .entry)) (phaseAt (now (file .entry)) (now (phases .entry)) b) (now (state .entry)) b) ⌝ }
     ensures told { λ _. ⌜ now (findings .exit) ≡ noted (now (file .entry)) (now (rec .entry)) (phaseAt (now (file .entry)) (now (phases .entry)) b) (now (state .entry)) b (now (findings .entry)) ⌝ }
     ensures answered { λ x. ⌜ x ≡ entering (now (file .entry)) (now (rec .entry)) (phaseAt (now (file .entry)) (now (phases .entry)) b) (now (state .entry)) b ⌝ }
 {
-    let r = casefile::block_record(file, start, b);
+    let r = part_at(blocks, casefile::BLOCK_SIZE * b, casefile::BLOCK_SIZE);
     let group = casefile::group_of(r) as usize;
-    let phase = wire::byte(phases, group);
-    let ack = err_ack(wire::byte(rec, 2 + group));
-    let at = h + 16 * b;
-    let old = block::load(wire::part(state, at, 16));
+    let phase = byte_at(phases, group);
+    let ack = err_ack(byte_at(rec, 2 + group));
+    let at = h + STATE_SIZE * b;
+    let old = block::load(part_at(state, at, STATE_SIZE));
     if block::reads_inputs(phase, old.code, ack) {
-        return reading_turn(file, start, r, rec, h, phase, ack, state, findings, b);
+        return reading_turn(file, blocks, r, rec, h, phase, ack, state, findings, b);
     }
     let bytes = block::pack(block::rest(phase, ack, old));
-    wire::put(state, at, &bytes);
+    put_at(state, at, &bytes);
     false
 }
 
@@ -196,7 +212,7 @@ pub fn turn(
 // `findings` what each says, by block number.
 pub fn run(
     file: &[u8],
-    start: usize,
+    blocks: &[u8],
     h: usize,
     n: usize,
     ranks: &[u8],
@@ -205,7 +221,7 @@ pub fn run(
     state: &mut [u8],
     findings: &mut [u8],
 ) -> bool
-    requires { ⌜ Running (now file) (now ranks) (now state) (now findings) start h n ⌝ }
+    requires { ⌜ Running (now file) (now rec) (now phases) (now blocks) (now ranks) (now state) (now findings) h n ⌝ }
     ensures left { λ _. ⌜ now (state .exit) ≡ take h (now (state .entry)) ++ gather n (ranWith (now (file .entry)) (now (rec .entry)) (now (phases .entry)) (now (state .entry))) ⌝ }
     ensures told { λ _. ⌜ now (findings .exit) ≡ gather n (slotWith (now (file .entry)) (now (rec .entry)) (now (phases .entry)) (now (state .entry))) ⌝ }
     ensures none { λ r. ⌜ (r ≡ false → (b : ℕ) → b < n → entersWith (now (file .entry)) (now (rec .entry)) (now (phases .entry)) (now (state .entry)) b ≡ false) ⌝ }
@@ -213,8 +229,8 @@ pub fn run(
     let mut some = false;
     let mut e = 0;
     while e < n {
-        let b = wire::byte(ranks, e) as usize;
-        let one = turn(file, start, rec, h, phases, state, findings, b);
+        let b = byte_at(ranks, e) as usize;
+        let one = turn(file, blocks, rec, h, phases, state, findings, b);
         some = some | one;
         e += 1;
     }

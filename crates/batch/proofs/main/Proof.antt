@@ -1,7 +1,6 @@
 -- `batch::main` is safe and ends: the measure is the number of requests that the counter still has room for, and nothing has to hold from turn to turn.
 -- Assumes nothing.
 use Prim.Native.Nat.{_-_}
-use native.Mathlib.Omega.{arith}
 use borrow.Author.Needs.{needs}
 use Rattle.batch.proofs.main.Statement.{statement}
 use Rattle.batch.proofs.main.Tie as tie

@@ -6,8 +6,9 @@ use borrow.Author.Needs.{needs}
 use denote.Ref.{now}
 use Rattle.casefile.specs.declared.Verdict.the-variants.{Accepted}
 use Rattle.casefile.specs.Refusal.{verdict, numberOf}
+use Rattle.casefile.proofs.Accepted.{number-zero}
 use Rattle.casefile.proofs.Placed.{is-groups, is-blocks}
-use Rattle.evaluator.proofs.Checking.{is-accepted, few-groups, few-blocks, state-length}
+use Rattle.evaluator.proofs.Checking.{few-groups, few-blocks, state-length}
 use Rattle.evaluator.proofs.FreshFormed.{fresh-refused, fresh-unsized, fresh-done}
 use Rattle.evaluator.proofs.fresh.Statement.{statement}
 use Rattle.evaluator.proofs.fresh.Tie as tie
@@ -20,7 +21,7 @@ number : (c : tie.After-number-of) → c .number-of .result ≡ numberOf (verdic
 number c = c .number-of .ensures ∙ ap numberOf (c .before .check .ensures)
 
 passed : (c : tie.Else1) → verdict (now (start-of (c .before) .args .file)) ≡ Accepted
-passed c = is-accepted (verdict (now (start-of (c .before) .args .file))) (omega (arith, number (c .before)))
+passed c = number-zero (verdict (now (start-of (c .before) .args .file))) (omega (arith, number (c .before)))
 
 returns : tie.Need-returns
 returns c = let a = start-of (c .before) .args in fresh-refused (now (a .file)) (now (a .state)) _ (number (c .before)) (c .if1 .taken)

@@ -8,9 +8,10 @@ use borrow.Author.Tests.{ne-eqb}
 use denote.Ref.{now}
 use Rattle.casefile.specs.declared.Verdict.the-variants.{Accepted}
 use Rattle.casefile.specs.Refusal.{verdict, numberOf}
+use Rattle.casefile.proofs.Accepted.{number-zero}
 use Rattle.evaluator.specs.Fresh.{sizesOf}
 use Rattle.evaluator.specs.declared.Sizes.the-variants.{Bytes}
-use Rattle.evaluator.proofs.Checking.{is-accepted, few-groups, few-blocks, few-outputs, state-length, outputs-length, findings-length}
+use Rattle.evaluator.proofs.Checking.{few-groups, few-blocks, few-outputs, state-length, outputs-length, findings-length}
 use Rattle.evaluator.proofs.sizes_of.Statement.{statement}
 use Rattle.evaluator.proofs.sizes_of.Tie as tie
 
@@ -22,7 +23,7 @@ number : (c : tie.After-number-of) → c .number-of .result ≡ numberOf (verdic
 number c = c .number-of .ensures ∙ ap numberOf (c .before .check .ensures)
 
 passed : (c : tie.Else1) → verdict (now (start-of (c .before) .args .file)) ≡ Accepted
-passed c = is-accepted (verdict (now (start-of (c .before) .args .file))) (omega (arith, number (c .before)))
+passed c = number-zero (verdict (now (start-of (c .before) .args .file))) (omega (arith, number (c .before)))
 
 -- the file of a place, and its layout's counts
 abbrev file-of : tie.After-layout-of → List ℕ

@@ -1,11 +1,16 @@
 -- `evaluator::step` meets its contract: the test of the record says which case holds.
 use mathlib.Core.Path.{ap}
 use borrow.Author.Needs.{needs}
+use denote.Ref.{now}
 use Rattle.wire.proofs.Places.{ok, bad}
 use Rattle.evaluator.specs.declared.Answer.the-variants.{Findings}
 use Rattle.evaluator.specs.Steps.{stepAnswer, stepState, stepFindings}
+use Rattle.evaluator.proofs.Calls.{sized}
 use Rattle.evaluator.proofs.step.Statement.{statement}
 use Rattle.evaluator.proofs.step.Tie as tie
+
+abbrev start-of : tie.After-record-ok → tie.Start
+start-of c = c .before .before .before .before .before .before .before .before .before .before
 
 returns : tie.Need-returns
 unfolding stepAnswer stepState stepFindings
@@ -24,9 +29,12 @@ pub step-spec : {M : Type 1} → statement M
 step-spec =
     tie.close
     (tie.spec
-    (λ c κs. search needs)
+    (λ c κs. let s = c .before .before .before .before .before .before .before .before .before in (s .pre .1 .layout, (s .pre .1 .accepted, (s .pre .1 .groups, s .pre .0))))
     returns
-    (λ c κs. search needs)
+    (λ c κs.
+    let t = c .before .before in
+    let s = start-of (t .before) in
+    (sized (now (s .args .file)) (now (s .args .rec)) (ok (t .before .record-ok .ensures) (t .if1 .left)), s .pre .1))
     (λ c. search needs)
     (λ c. search needs)
     returns-2)

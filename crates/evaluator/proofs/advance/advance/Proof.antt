@@ -2,12 +2,12 @@
 use borrow.Author.Needs.{needs}
 use borrow.Author.Tests.{not-true}
 use denote.Ref.{now}
-use Rattle.evaluator.proofs.Checked.{group-at, few-heads, heads-fit, running, ran-state, packable, all-findings, all-count, no-findings, no-count}
+use Rattle.evaluator.proofs.Checked.{linking, heads-fit, running, ran-state, packable, all-findings, all-count, no-findings, no-count}
 use Rattle.evaluator.proofs.advance.advance.Statement.{statement}
 use Rattle.evaluator.proofs.advance.advance.Tie as tie
 
 abbrev start-of : tie.After-decide → tie.Start
-start-of c = c .before .before .before .before .before .before .before .before .before .before .before .before
+start-of c = c .before .before .before .before .before .before .before .before .before .before .before .before .before .before
 
 abbrev decided-of : tie.After-run → tie.After-decide
 decided-of c = c .before .before .before .before .before .before
@@ -17,8 +17,8 @@ run-requires c κs =
     let d = c .before .before .before .before .before in
     let s = start-of d in
     let a = s .args in
-    running (now (a .file)) (now (a .rec)) (a .l) (now (a .ranks)) (now (a .errors)) (now (a .state)) (now (a .findings)) (s .pre) _ _ (d .decide .ensures .0) (d .decide .ensures .1)
-    _ (d .before .before .before .before .clear .ensures)
+    running (now (a .file)) (now (a .rec)) (a .l) (now (a .groups)) (now (a .blocks)) (now (a .ranks)) (now (a .errors)) (now (a .state)) (now (a .findings)) (s .pre .1) _ _ (d .decide .ensures .0) (d .decide .ensures .1)
+    _ (d .before .before .before .before .clear .ensures) (s .pre .0)
 
 -- no block entered ERROR
 returns : tie.Need-returns
@@ -28,10 +28,10 @@ returns c =
     let s = start-of d in
     let a = s .args in
     let none = r .run .ensures .1 .1 (not-true (r .run .result) (c .if1 .taken)) in (
-      ran-state (now (a .file)) (now (a .rec)) (a .l) (now (a .ranks)) (now (a .errors)) (now (a .state)) (now (a .findings)) (s .pre) _ _ (d .decide .ensures .0) (d .decide .ensures .1) _ (r .run .ensures .0),
+      ran-state (now (a .file)) (now (a .rec)) (a .l) (now (a .groups)) (now (a .blocks)) (now (a .ranks)) (now (a .errors)) (now (a .state)) (now (a .findings)) (s .pre .1) _ _ (d .decide .ensures .0) (d .decide .ensures .1) _ (r .run .ensures .0),
       (
-        no-findings (now (a .file)) (now (a .rec)) (a .l) (now (a .ranks)) (now (a .errors)) (now (a .state)) (now (a .findings)) (s .pre) _ _ (d .decide .ensures .0) (d .decide .ensures .1) _ (r .run .ensures .1 .0) none,
-        no-count (now (a .file)) (now (a .rec)) (a .l) (now (a .ranks)) (now (a .errors)) (now (a .state)) (now (a .findings)) (s .pre) _ _ (d .decide .ensures .0) (d .decide .ensures .1) _ (r .run .ensures .1 .0) none,
+        no-findings (now (a .file)) (now (a .rec)) (a .l) (now (a .groups)) (now (a .blocks)) (now (a .ranks)) (now (a .errors)) (now (a .state)) (now (a .findings)) (s .pre .1) _ _ (d .decide .ensures .0) (d .decide .ensures .1) _ (r .run .ensures .1 .0) none,
+        no-count (now (a .file)) (now (a .rec)) (a .l) (now (a .groups)) (now (a .blocks)) (now (a .ranks)) (now (a .errors)) (now (a .state)) (now (a .findings)) (s .pre .1) _ _ (d .decide .ensures .0) (d .decide .ensures .1) _ (r .run .ensures .1 .0) none,
       ),
     )
 
@@ -41,7 +41,7 @@ pack-requires c κs =
     let d = decided-of r in
     let s = start-of d in
     let a = s .args in
-    packable (now (a .file)) (now (a .rec)) (a .l) (now (a .ranks)) (now (a .errors)) (now (a .state)) (now (a .findings)) (s .pre) _ _ (d .decide .ensures .0) (d .decide .ensures .1) _ (r .run .ensures .1 .0)
+    packable (now (a .file)) (now (a .rec)) (a .l) (now (a .groups)) (now (a .blocks)) (now (a .ranks)) (now (a .errors)) (now (a .state)) (now (a .findings)) (s .pre .1) _ _ (d .decide .ensures .0) (d .decide .ensures .1) _ (r .run .ensures .1 .0)
 
 -- some block may have
 returns-2 : tie.Need-returns-2
@@ -51,10 +51,10 @@ returns-2 c =
     let d = decided-of r in
     let s = start-of d in
     let a = s .args in (
-      ran-state (now (a .file)) (now (a .rec)) (a .l) (now (a .ranks)) (now (a .errors)) (now (a .state)) (now (a .findings)) (s .pre) _ _ (d .decide .ensures .0) (d .decide .ensures .1) _ (r .run .ensures .0),
+      ran-state (now (a .file)) (now (a .rec)) (a .l) (now (a .groups)) (now (a .blocks)) (now (a .ranks)) (now (a .errors)) (now (a .state)) (now (a .findings)) (s .pre .1) _ _ (d .decide .ensures .0) (d .decide .ensures .1) _ (r .run .ensures .0),
       (
-        all-findings (now (a .file)) (now (a .rec)) (a .l) (now (a .ranks)) (now (a .errors)) (now (a .state)) (now (a .findings)) (s .pre) _ _ (d .decide .ensures .0) (d .decide .ensures .1) _ (r .run .ensures .1 .0) _ (p .pack .ensures .0),
-        all-count (now (a .file)) (now (a .rec)) (a .l) (now (a .ranks)) (now (a .errors)) (now (a .state)) (now (a .findings)) (s .pre) _ _ (d .decide .ensures .0) (d .decide .ensures .1) _ (r .run .ensures .1 .0) _ (p .pack .ensures .1),
+        all-findings (now (a .file)) (now (a .rec)) (a .l) (now (a .groups)) (now (a .blocks)) (now (a .ranks)) (now (a .errors)) (now (a .state)) (now (a .findings)) (s .pre .1) _ _ (d .decide .ensures .0) (d .decide .ensures .1) _ (r .run .ensures .1 .0) _ (p .pack .ensures .0),
+        all-count (now (a .file)) (now (a .rec)) (a .l) (now (a .groups)) (now (a .blocks)) (now (a .ranks)) (now (a .errors)) (now (a .state)) (now (a .findings)) (s .pre .1) _ _ (d .decide .ensures .0) (d .decide .ensures .1) _ (r .run .ensures .1 .0) _ (p .pack .ensures .1),
       ),
     )
 
@@ -64,10 +64,10 @@ advance-spec =
     (tie.spec
     (λ c κs. search needs)
     (λ c κs.
-    let s = c .before .before .before .before .before .before .before .before .before .before .before in
+    let s = c .before .before .before .before .before .before .before .before .before .before .before .before .before in
     let a = s .args in (
-      (group-at (now (a .file)) (a .l) (s .pre .layout), few-heads (now (a .file)) (now (a .rec)) (a .l) (now (a .ranks)) (now (a .errors)) (now (a .state)) (now (a .findings)) (s .pre)),
-      (heads-fit (now (a .file)) (now (a .rec)) (a .l) (now (a .ranks)) (now (a .errors)) (now (a .state)) (now (a .findings)) (s .pre), s .pre .errors),
+      linking (now (a .file)) (now (a .rec)) (a .l) (now (a .groups)) (now (a .blocks)) (now (a .ranks)) (now (a .errors)) (now (a .state)) (now (a .findings)) (s .pre .1),
+      (heads-fit (now (a .file)) (now (a .rec)) (a .l) (now (a .groups)) (now (a .blocks)) (now (a .ranks)) (now (a .errors)) (now (a .state)) (now (a .findings)) (s .pre .1), s .pre .1 .errors),
     ))
     (λ c. search needs)
     run-requires

@@ -17,7 +17,7 @@ use Rattle.evaluator.proofs.checks.record_ok.Tie as tie
 returns : tie.Need-returns
 unfolding recordOk
 returns c =
-    let s = c .before .before .before in
+    let s = c .before .before .before .before .before in
     let F = now (s .args .file) in
     rw (ne-eqb (length (now (s .args .rec))) (recordSize F) (λ q. c .if1 .taken (q ∙ sym (is-size F (s .pre .0)))))
 
@@ -25,7 +25,7 @@ returns-2 : tie.Need-returns-2
 unfolding recordOk all
 returns-2 c =
     let d = c .before .before .before in
-    let s = d .before .before .before in
+    let s = d .before .before .before .before .before in
     let F = now (s .args .file) in
     rw (eq-eqb (length (now (s .args .rec))) (recordSize F) (d .if1 .left ∙ is-size F (s .pre .0)))
     (λ i.
@@ -39,9 +39,9 @@ record-ok-spec =
     (tie.spec
     returns
     (λ c κs. search needs)
-    (λ c κs. search needs)
+    (λ c κs. let s = c .before .before .before .before .before .before in (s .pre .0, (s .pre .1 .0, s .pre .1 .1 .0)))
     (λ c κs.
     let d = c .before .before in
-    let s = d .before .before .before in
-    (s .pre .0, (s .pre .1, d .if1 .left ∙ is-size (now (s .args .file)) (s .pre .0))))
+    let s = d .before .before .before .before .before in
+    (s .pre .0, (s .pre .1 .0, (s .pre .1 .1 .1, d .if1 .left ∙ is-size (now (s .args .file)) (s .pre .0)))))
     returns-2)

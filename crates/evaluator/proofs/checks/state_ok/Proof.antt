@@ -13,7 +13,7 @@ use Rattle.evaluator.proofs.checks.state_ok.Tie as tie
 returns : tie.Need-returns
 unfolding stateOk all
 returns c =
-    let s = c .before .before .before .before in
+    let s = c .before .before .before .before .before in
     let F = now (s .args .file) in
     let groups = is-groups F (s .pre .0) in
     let blocks = is-blocks F (s .pre .0) in

@@ -1,23 +1,22 @@
 -- `evaluator::groups::decide` meets its contract: after the turn of group g the bytes and phases of the groups below g + 1 are decided (`Deciding`).
-use mathlib.Core.Path.{_≡_, ap, ap₂, _∙_, subst}
-use Prim.Native.Nat.{ℕ, _-_, _<_}
+use mathlib.Core.Path.{_≡_, ap₂, _∙_, subst}
+use Prim.Native.Nat.{_-_, _<_}
 use native.Mathlib.Omega.{arith}
 use borrow.Author.Needs.{needs}
 use denote.Ref.{now}
-use Rattle.casefile.specs.Layout.{runAt, runLinked}
 use Rattle.evaluator.specs.Groups.{runsWith, phaseFrom, newGroup, phase}
 use Rattle.evaluator.proofs.Deciding.{Deciding, deciding-start, new-is, deciding-turn, deciding-state, deciding-phases}
 use Rattle.evaluator.proofs.groups.decide.Statement.{statement}
 use Rattle.evaluator.proofs.groups.decide.Tie as tie
 
 abbrev Inv-loop : tie.InvT-loop
-Inv-loop file start h rec errors state₀ phases₀ g₀ state phases g = Deciding file rec state₀ h state phases g
+Inv-loop file groups h rec errors state₀ phases₀ g₀ state phases g = Deciding file rec state₀ h state phases g
 
 abbrev μ-loop : tie.MeasureT-loop
-μ-loop file start h rec errors state₀ phases₀ g₀ state phases g = h - g
+μ-loop file groups h rec errors state₀ phases₀ g₀ state phases g = h - g
 
 abbrev start-of : tie.At-loop Inv-loop μ-loop → tie.Start Inv-loop μ-loop
-start-of c = c .before .before .before .before .before
+start-of c = c .before .before .before .before .before .before
 
 -- group g's byte, from what was read
 new-byte : (c : tie.After-group-next Inv-loop μ-loop) →
@@ -31,7 +30,7 @@ new-byte c =
     let l = y .before .before .before in
     let s = start-of l in
     let a = s .args in
-    new-is (now (a .file)) (now (a .rec)) (now (a .state)) (a .h) (l .loop .state) (l .loop .phases) (now (a .errors)) (l .loop .g) (l .loop .inv) (y .before .before .loop-test .taken) (s .pre .0 .1) (s .pre .1 .0)
+    new-is (now (a .file)) (now (a .rec)) (now (a .state)) (a .h) (l .loop .state) (l .loop .phases) (now (a .errors)) (l .loop .g) (l .loop .inv) (y .before .before .loop-test .taken) (s .pre .0 .few) (s .pre .1 .0)
     _ _ _ _ _ (y .before .byte .ensures) (y .byte2 .ensures) (s .pre .1 .1) (p .is-pending .ensures) (k .err-ack .ensures) (c .group-next .ensures)
 
 -- and its phase
@@ -40,7 +39,7 @@ new-phase : (c : tie.After-phase-from Inv-loop μ-loop) →
     let l = g .before .before .before .before .before .before .before in
     let a = start-of l .args in
     c .phase-from .result ≡ phase (now (a .file)) (now (a .rec)) (now (a .state)) (l .loop .g)
-unfolding phase runLinked
+unfolding phase
 new-phase c =
     let g = c .before .before .before in
     let y = g .before .before .before .before .before in
@@ -50,7 +49,7 @@ new-phase c =
     c .phase-from .ensures
     ∙ ap₂ phaseFrom
     (c .before .runs-with .ensures
-    ∙ ap₂ runsWith (c .before .before .run-linked .ensures ∙ ap (λ (k : ℕ). runAt k (l .loop .g) (now (a .file))) (s .pre .0 .0)) (y .byte .ensures))
+    ∙ ap₂ runsWith (c .before .before .run-linked .ensures ∙ s .pre .0 .each (l .loop .g) (y .before .loop-test .taken)) (y .byte .ensures))
     (new-byte g)
 
 loop-again : tie.Need-loop-again Inv-loop μ-loop
@@ -60,7 +59,7 @@ loop-again c =
     let l = y .before .before in
     let s = start-of l in
     let a = s .args in
-    deciding-turn (now (a .file)) (now (a .rec)) (now (a .state)) (a .h) (l .loop .state) (l .loop .phases) (now (a .errors)) (l .loop .g) (l .loop .inv) (y .before .loop-test .taken) (s .pre .0 .1) (s .pre .1 .0) _ _ (new-byte g) (new-phase c)
+    deciding-turn (now (a .file)) (now (a .rec)) (now (a .state)) (a .h) (l .loop .state) (l .loop .phases) (now (a .errors)) (l .loop .g) (l .loop .inv) (y .before .loop-test .taken) (s .pre .0 .few) (s .pre .1 .0) _ _ (new-byte g) (new-phase c)
 
 -- all have decided
 ended : (c : tie.After-loop Inv-loop μ-loop) →
@@ -81,7 +80,7 @@ turning : (c : tie.After-phase-from Inv-loop μ-loop) → let l = loop-of c in l
 turning c = c .before .before .before .before .before .before .before .before .before .loop-test .taken
 
 small : (c : tie.After-phase-from Inv-loop μ-loop) → loop-of c .loop .g < 8
-small c = omega (arith, turning c, start-of (loop-of c) .pre .0 .1)
+small c = omega (arith, turning c, start-of (loop-of c) .pre .0 .few)
 
 pub decide-spec : {M : Type 1} → statement M
 decide-spec =

@@ -2,7 +2,7 @@
 use mathlib.Core.Path.{_≡_, sym, ap, _∙_, subst}
 use mathlib.Core.Logic.{⊎-elim}
 use mathlib.Core.List.{List}
-use Prim.Native.Nat.{ℕ, _+_, _-_, _≤_}
+use Prim.Native.Nat.{ℕ, _+_, _-_, _≤_, _<_}
 use native.Mathlib.Omega.{arith}
 use borrow.Author.Needs.{needs}
 use lib.ListN.{set}
@@ -10,19 +10,27 @@ use denote.Ref.{now}
 use Rattle.casefile.specs.Layout.{groupIn, groupOf, blockCount}
 use Rattle.block.specs.State.{decode}
 use Rattle.evaluator.specs.Groups.{cell, codeOf}
-use Rattle.evaluator.proofs.Reading.{record-is, cell-is}
+use Rattle.evaluator.proofs.Reading.{cell-is, record-there, cell-there}
 use Rattle.evaluator.proofs.Deciding.{Marked, marked-start, marked-miss, marked-hit, marked-end}
 use Rattle.evaluator.proofs.groups.error_groups.Statement.{statement}
 use Rattle.evaluator.proofs.groups.error_groups.Tie as tie
 
 abbrev Inv-loop : tie.InvT-loop
-Inv-loop file start h n state marks₀ b₀ marks b = (b ≤ n) × Marked file state marks b
+Inv-loop file blocks h n state marks₀ b₀ marks b = (b ≤ n) × Marked file state marks b
 
 abbrev μ-loop : tie.MeasureT-loop
-μ-loop file start h n state marks₀ b₀ marks b = n - b
+μ-loop file blocks h n state marks₀ b₀ marks b = n - b
 
 abbrev start-of : tie.At-loop Inv-loop μ-loop → tie.Start Inv-loop μ-loop
-start-of c = c .before .before .before
+start-of c = c .before .before .before .before
+
+-- the block is one of the project's
+inside : (c : tie.In-loop Inv-loop μ-loop) → c .before .loop .b < blockCount (now (start-of (c .before) .args .file))
+inside c = omega (arith, c .loop-test .taken, start-of (c .before) .pre .1 .count)
+
+-- it is one of 64, behind at most 8 groups
+small : (c : tie.In-loop Inv-loop μ-loop) → (c .before .loop .b < 64) × (start-of (c .before) .args .h ≤ 8)
+small c = let s = start-of (c .before) in (omega (arith, inside c, s .pre .0 .fewBlocks), s .pre .0 .few)
 
 -- the block's code
 code-is : (c : tie.After-load Inv-loop μ-loop) →
@@ -33,7 +41,7 @@ code-is c =
     let l = c .before .before .before in
     let s = start-of l in
     let a = s .args in
-    let e = c .load .ensures ∙ ap decode (c .before .part .ensures ∙ cell-is (now (a .file)) (now (a .file)) (now (a .state)) (a .start) (a .h) (s .pre .0) (l .loop .b)) in
+    let e = c .load .ensures ∙ ap decode (c .before .part-at .ensures ∙ cell-is (now (a .file)) (now (a .state)) (a .h) (s .pre .0 .heads) (l .loop .b)) in
     λ i. e i .code
 
 -- its group
@@ -45,7 +53,7 @@ group-is c =
     let l = c .before .before .before .before .before .before .before in
     let s = start-of l in
     let a = s .args in
-    c .group-of .ensures ∙ ap groupIn (c .before .block-record .ensures ∙ record-is (now (a .file)) (now (a .file)) (now (a .state)) (a .start) (a .h) (s .pre .0) (l .loop .b))
+    c .group-of .ensures ∙ ap groupIn (c .before .part-at2 .ensures ∙ s .pre .0 .each (l .loop .b) (inside (c .before .before .before .before .before .before)))
 
 loop-again : tie.Need-loop-again Inv-loop μ-loop
 loop-again c =
@@ -57,7 +65,7 @@ loop-again c =
       omega arith,
       ⊎-elim
           (λ w.
-          let g = w .2 .ensures ∙ ap groupIn (w .1 .ensures ∙ record-is (now (a .file)) (now (a .file)) (now (a .state)) (a .start) (a .h) (s .pre .0) (l .loop .b)) in
+          let g = w .2 .ensures ∙ ap groupIn (w .1 .ensures ∙ s .pre .0 .each (l .loop .b) (inside (k .before .before))) in
           subst kept (sym (w .3 ∙ ap (λ (j : ℕ). set (l .loop .marks) j 1) g))
           (marked-hit (now (a .file)) (now (a .state)) (l .loop .marks) (l .loop .b) (l .loop .inv .1) (sym (code-is k) ∙ w .0 .taken) (s .pre .1 .groups (l .loop .b) (c .before .before .before .before .loop-test .taken))))
           (λ w.
@@ -73,11 +81,15 @@ error-groups-spec =
     Inv-loop
     μ-loop
     (λ c. (search needs, marked-start _ _))
-    (λ c. search needs)
-    (λ c. search needs)
+    (λ c. omega (arith, small c))
+    (λ c. omega (arith, small c))
+    (λ c κs. let s = start-of (c .before) in cell-there (now (s .args .file)) (now (s .args .file)) (now (s .args .blocks)) (now (s .args .state)) (s .args .h) (s .pre .0) _ (inside c))
     (λ c κs. search needs)
-    (λ c κs. search needs)
-    (λ c κs. search needs)
+    (λ c. omega (arith, small (c .before .before .before .before)))
+    (λ c κs.
+    let t = c .before .before .before .before in
+    let s = start-of (t .before) in
+    record-there (now (s .args .file)) (now (s .args .file)) (now (s .args .blocks)) (now (s .args .state)) (s .args .h) (s .pre .0) _ (inside t))
     (λ c κs. search needs)
     (λ c. search needs)
     (λ c.

@@ -8,9 +8,8 @@ use lib.ListN.{length}
 use lib.Seq.{sets}
 use denote.Ref.{now}
 use Rattle.wire.specs.Words.{bytes4}
-use Rattle.wire.specs.Records.{slot}
 use Rattle.wire.proofs.Records.{gathered, gathered-none, gathered-length, gathered-more, gathered-all}
-use Rattle.casefile.specs.Layout.{outputRecord, outputBlockIn, outputPortIn}
+use Rattle.casefile.specs.Layout.{outputRecord, outputBlock, outputBlockIn, outputPortIn}
 use Rattle.evaluator.specs.Groups.{cell}
 use Rattle.evaluator.specs.Cycle.{portShows}
 use Rattle.evaluator.specs.Fits.{outputShown}
@@ -21,13 +20,13 @@ abbrev word : List ℕ → List ℕ → ℕ → List ℕ
 word F S o = bytes4 (outputShown F S o)
 
 abbrev Inv-loop : tie.InvT-loop
-Inv-loop file start h first m state outputs₀ o₀ outputs o = (o ≤ m) × (outputs ≡ gathered 4 (word file state) outputs₀ o)
+Inv-loop file blocks rows h m state outputs₀ o₀ outputs o = (o ≤ m) × (outputs ≡ gathered 4 (word file state) outputs₀ o)
 
 abbrev μ-loop : tie.MeasureT-loop
-μ-loop file start h first m state outputs₀ o₀ outputs o = m - o
+μ-loop file blocks rows h m state outputs₀ o₀ outputs o = m - o
 
 abbrev start-of : tie.At-loop Inv-loop μ-loop → tie.Start Inv-loop μ-loop
-start-of c = c .before .before .before .before
+start-of c = c .before .before .before .before .before .before
 
 long : (c : tie.At-loop Inv-loop μ-loop) → length (c .loop .outputs) ≡ length (now (start-of c .args .outputs))
 long c =
@@ -36,20 +35,28 @@ long c =
     ap length (c .loop .inv .1)
     ∙ gathered-length 4 (word (now (a .file)) (now (a .state))) (now (a .outputs)) (c .loop .o) (λ j. refl) (omega (arith, s .pre .1 .1, c .loop .inv .0))
 
+-- the record of output o, and the block that it names
+record-is : (c : tie.After-part-at Inv-loop μ-loop) → let l = c .before .before in let a = start-of l .args in now (c .part-at .result) ≡ outputRecord (now (a .file)) (l .loop .o)
+record-is c =
+    let l = c .before .before in
+    c .part-at .ensures ∙ start-of l .pre .1 .0 .each (l .loop .o) (c .before .loop-test .taken)
+
+block-is : (c : tie.After-output-block Inv-loop μ-loop) → let l = c .before .before .before in let a = start-of l .args in c .output-block .result ≡ outputBlock (now (a .file)) (l .loop .o)
+block-is c = c .output-block .ensures ∙ ap outputBlockIn (record-is (c .before))
+
 -- the word of output o
 shown : (c : tie.After-port-shows Inv-loop μ-loop) →
     let l = c .before .before .before .before .before in
     let a = start-of l .args in
     c .port-shows .result ≡ outputShown (now (a .file)) (now (a .state)) (l .loop .o)
-unfolding outputShown outputRecord
+unfolding outputShown
 shown c =
     let r = c .before .before .before in
     let l = r .before .before in
     let s = start-of l in
     let a = s .args in
-    let here = r .output-record .ensures ∙ ap (λ (k : ℕ). slot k 3 (l .loop .o) (now (a .file))) (s .pre .1 .0 .0) in
-    let block = c .before .before .output-block .ensures ∙ ap outputBlockIn here in
-    let port = c .before .output-port .ensures ∙ ap outputPortIn here in
+    let block = block-is (c .before .before) in
+    let port = c .before .output-port .ensures ∙ ap outputPortIn (record-is r) in
     c .port-shows .ensures ∙ (λ i. portShows (now (a .file)) (block i) (port i) (cell (now (a .file)) (now (a .state)) (block i)))
 
 loop-again : tie.Need-loop-again Inv-loop μ-loop
@@ -74,11 +81,16 @@ write-outputs-spec =
     Inv-loop
     μ-loop
     (λ c. (search needs, gathered-none 4 _ _))
+    (λ c. omega (arith, c .loop-test .taken, start-of (c .before) .pre .1 .0 .few))
+    (λ c κs. omega (arith, c .loop-test .taken, start-of (c .before) .pre .1 .0 .long))
     (λ c κs. search needs)
     (λ c κs. search needs)
-    (λ c κs. search needs)
-    (λ c κs. search needs)
-    (λ c. search needs)
+    (λ c κs.
+    let r = c .before .before in
+    let l = r .before .before in
+    let s = start-of l in
+    (s .pre .0, rw (block-is (c .before)) (s .pre .1 .0 .blocks (l .loop .o) (r .before .loop-test .taken))))
+    (λ c. omega (arith, c .before .before .before .before .before .loop-test .taken, start-of (c .before .before .before .before .before .before) .pre .1 .0 .few))
     (λ c κs. search needs)
     (λ c. search needs)
     (λ c. search needs)

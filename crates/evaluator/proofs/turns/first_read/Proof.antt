@@ -25,12 +25,15 @@ returns-2 c =
     (c .effective .ensures ∙ ap₂ effectiveMask (c .before .before .parameters-of .ensures) (c .before .port-bits2 .ensures))
 
 -- arithmetic
+abbrev start-of : tie.Else2 → tie.Start
+start-of c = c .before .before .before .before .before .before .before .before
+
 returns-3 : tie.Need-returns-3
 unfolding firstRead
 returns-3 c =
     let d = c .before .before in
     let k = d .before .before .kind-of .ensures in
-    let a = d .before .before .before .before .before .before .before .args in
+    let a = start-of d .args in
     rw (is-not k (d .before .if1 .left), is-not k (d .if2 .left))
     (c .port-word .ensures ∙ ap (reads (wires (now (a .file)) (now (a .rec))) (cell (now (a .file)) (now (a .state)))) (c .before .source-of .ensures))
 
@@ -46,5 +49,5 @@ first-read-spec =
     (λ c κs. search needs)
     returns-2
     (λ c κs. search needs)
-    (λ c κs. search needs)
+    (λ c κs. let s = start-of (c .before) in (s .pre .0, (s .pre .1 .long, rw (c .source-of .ensures) (s .pre .1 .links _))))
     returns-3)

@@ -15,30 +15,33 @@ use Rattle.evaluator.proofs.turns.port_bits.Statement.{statement}
 use Rattle.evaluator.proofs.turns.port_bits.Tie as tie
 
 abbrev Inv-loop : tie.InvT-loop
-Inv-loop file start r rec h state n bits₀ p₀ bits p = (p ≤ n) × (bits ≡ bitsFrom (wordsOf file rec state r) (n - p) p)
+Inv-loop file blocks r rec h state n bits₀ p₀ bits p = (p ≤ n) × (bits ≡ bitsFrom (wordsOf file rec state r) (n - p) p)
 
 abbrev μ-loop : tie.MeasureT-loop
-μ-loop file start r rec h state n bits₀ p₀ bits p = p
+μ-loop file blocks r rec h state n bits₀ p₀ bits p = p
+
+abbrev start-of : tie.At-loop Inv-loop μ-loop → tie.Start Inv-loop μ-loop
+start-of c = c .before .before .before .before .before .before
 
 loop-holds : tie.Need-loop-holds Inv-loop μ-loop
 unfolding bitsFrom
 loop-holds c =
-    let a = c .before .before .before .before .args in
+    let a = c .before .before .before .before .before .args in
     (search needs, sym (ap (λ (k : ℕ). bitsFrom (wordsOf (now (a .file)) (now (a .rec)) (now (a .state)) (now (a .r))) k (a .n)) (sub-self (a .n))))
 
 loop-again : tie.Need-loop-again Inv-loop μ-loop
 loop-again c =
     let l = c .before .before .before .before in
-    let s = l .before .before .before .before .before in
+    let s = start-of l in
     let a = s .args in
     let words = wordsOf (now (a .file)) (now (a .rec)) (now (a .state)) (now (a .r)) in
     let word = c .before .port-word .ensures ∙ ap (reads (wires (now (a .file)) (now (a .rec))) (cell (now (a .file)) (now (a .state)))) (c .before .before .source-of .ensures) in
-    (omega arith, bits-more words (a .n) (l .loop .p) (l .loop .bits) _ _ (s .pre .1) (c .before .before .before .loop-test .taken) (l .loop .inv .0) (l .loop .inv .1) word (c .bit-below .ensures))
+    (omega arith, bits-more words (a .n) (l .loop .p) (l .loop .bits) _ _ (s .pre .1 .1) (c .before .before .before .loop-test .taken) (l .loop .inv .0) (l .loop .inv .1) word (c .bit-below .ensures))
 
 returns : tie.Need-returns Inv-loop μ-loop
 returns c =
     let l = c .before in
-    let a = l .before .before .before .before .before .args in
+    let a = start-of l .args in
     let zero : l .loop .p ≡ 0 = omega arith in
     l .loop .inv .1 ∙ (λ i. bitsFrom (wordsOf (now (a .file)) (now (a .rec)) (now (a .state)) (now (a .r))) ((ap (λ (k : ℕ). a .n - k) zero ∙ sub-zero (a .n)) i) (zero i))
 
@@ -51,7 +54,9 @@ port-bits-spec =
     loop-holds
     (λ c. search needs)
     (λ c κs. search needs)
-    (λ c κs. search needs)
+    (λ c κs.
+    let s = start-of (c .before .before) in
+    (s .pre .0, (s .pre .1 .0 .long, rw (c .source-of .ensures) (s .pre .1 .0 .links _))))
     (λ c κs. search needs)
     (λ c. search needs)
     loop-again

@@ -1,0 +1,24 @@
+-- `hagglethwait::hagglethwait_sizes` meets its contract: each number that is lent is set where the sizes are there, and stays where the file is turned down.
+use mathlib.Core.Path.{sym, ap, _∙_}
+use borrow.Author.Needs.{needs}
+use denote.Ref.{now}
+use Rattle.evaluator.specs.declared.Sizes.{Sizes}
+use Rattle.evaluator.specs.Fresh.{sizesNumber}
+use Rattle.hagglethwait.specs.Calls.{stateSaid, outputsSaid, findingsSaid}
+use Rattle.hagglethwait.proofs.hagglethwait_sizes.Statement.{statement}
+use Rattle.hagglethwait.proofs.hagglethwait_sizes.Tie as tie
+
+returns : tie.Need-returns
+returns c =
+    let a = c .before .before .before .before .before .args in
+    let e = sym (c .before .sizes .given .1) ∙ c .before .before .before .sizes-of .ensures in
+    (ap sizesNumber e, (ap (λ (x : Sizes). stateSaid x (now (a .state))) e, (ap (λ (x : Sizes). outputsSaid x (now (a .outputs))) e, ap (λ (x : Sizes). findingsSaid x (now (a .findings))) e)))
+
+returns-2 : tie.Need-returns-2
+returns-2 c =
+    let a = c .before .before .before .before .before .args in
+    let e = sym (c .before .sizes2 .given .1) ∙ c .before .before .before .sizes-of .ensures in
+    (ap sizesNumber e, (ap (λ (x : Sizes). stateSaid x (now (a .state))) e, (ap (λ (x : Sizes). outputsSaid x (now (a .outputs))) e, ap (λ (x : Sizes). findingsSaid x (now (a .findings))) e)))
+
+pub hagglethwait-sizes-spec : {M : Type 1} → statement M
+hagglethwait-sizes-spec = tie.close (tie.spec (λ c κs. search needs) (λ c. search needs) (λ c. search needs) returns returns-2)

@@ -1,0 +1,195 @@
+// The trace of a case file: from its fresh state all its cycles, each finding a line on standard output, and at the end `end` with the counts or `refused` with
+// the number (01, "The trace program"). The file is checked once. The evaluator runs the cycles and the crate `report` makes the lines; here they are written.
+ghost use mathlib.Core.Path.{_≡_};
+ghost use Prim.Native.Nat.{_≤_, _%_};
+ghost use Rattle.tracer.specs.Traced.{Started, Offered, Told, stateAfter, runEnd, endOf};
+ghost use Rattle.evaluator.specs.Answer.{freshFor};
+use block::FINDING_SIZE;
+use block::STATE_SIZE;
+use casefile::Layout;
+use evaluator::Answer;
+use libc::STDOUT_FILENO;
+use number::NumType;
+
+// An accepted file has at most so many groups and blocks.
+const GROUPS: usize = 8;
+
+const BLOCKS: usize = 64;
+
+fn print_refused(number: u8) {
+    let mut text = [0u8; 96];
+    let n = report::refused_line(&mut text, number);
+    io::write_all(STDOUT_FILENO, &text[..n]);
+}
+
+fn print_end(cycles: u32, findings: u32) {
+    let mut text = [0u8; 96];
+    let n = report::end_line(&mut text, cycles, findings);
+    io::write_all(STDOUT_FILENO, &text[..n]);
+}
+
+// The type of input `port` of block b as the line shows it: TWOHAND's mask is shown unsigned.
+fn shown_type(blocks: &[u8], b: u8, port: u8) -> NumType {
+    let r = casefile::block_record(blocks, 0, b as usize);
+    let kind = casefile::kind_of(r);
+    if kind == kind::TWOHAND {
+        return NumType::Uint32;
+    }
+    number::type_of(kind::type_in(kind, casefile::parameters_of(r), port))
+}
+
+// The line of one finding.
+fn print_finding(blocks: &[u8], cycle: u32, f: &[u8]) {
+    let mut text = [0u8; 96];
+    let said = block::read_finding(f);
+    let b = said.block;
+    let n = report::finding_line(
+        &mut text,
+        cycle,
+        b,
+        said.text,
+        said.diagnosis,
+        shown_type(blocks, b, 0),
+        said.first,
+        shown_type(blocks, b, 1),
+        said.second,
+    );
+    io::write_all(STDOUT_FILENO, &text[..n]);
+}
+
+// The lines of a cycle's k findings. It is given no others.
+fn print_findings(file: &[u8], blocks: &[u8], cycle: u32, k: u32, findings: &[u8])
+    requires { ⌜ Told (now file) cycle k (now findings) ⌝ }
+{
+    let mut i: u32 = 0;
+    while i < k {
+        print_finding(
+            blocks,
+            cycle,
+            wire::part(findings, FINDING_SIZE * (i as usize), FINDING_SIZE),
+        );
+        i += 1;
+    }
+}
+
+// How a trace ends: the file or a record of it is turned down with a number, or all cycles have run, so many with so many findings.
+pub enum End {
+    Refused(u8),
+    Ran(u32, u32),
+}
+
+// The last line.
+fn print_last(end: End) {
+    match end {
+        End::Refused(number) => print_refused(number),
+        End::Ran(cycles, findings) => print_end(cycles, findings),
+    }
+}
+
+// All cycles of an accepted file, from its fresh state. (A file has fewer than 2^15 records, of at most 64 findings each: the counts stay below 2^32.)
+fn run(
+    file: &[u8],
+    l: Layout,
+    groups: &[u8],
+    inputs: &[u8],
+    blocks: &[u8],
+    records: &[u8],
+    order: &[u8],
+    state: &mut [u8],
+    findings: &mut [u8],
+) -> End
+    requires { ⌜ Started (now file) l (now groups) (now inputs) (now blocks) (now records) (now order) (now state) (now findings) ⌝ }
+    requires { ⌜ now state ≡ freshFor (now file) ⌝ }
+    ensures ended { λ r. ⌜ r ≡ runEnd (now (file .entry)) ⌝ }
+    ensures left { λ _. ⌜ now (state .exit) ≡ stateAfter (now (file .entry)) ⌝ }
+{
+    let n = record_count(l);
+    let mut total: u64 = 0;
+    let mut done = 0;
+    while done < n {
+        let rec = casefile::cycle_record(records, 0, l.size, done);
+        let errors = evaluator::groups_in_error(file, l, blocks, state);
+        let answer = evaluator::step(
+            file,
+            l,
+            groups,
+            inputs,
+            blocks,
+            order,
+            &errors,
+            rec,
+            state,
+            findings,
+        );
+        done += 1;
+        let Answer::Findings(k) = answer else {
+            return End::Refused(12);
+        };
+        print_findings(file, blocks, low(done as u64), k, findings);
+        total = (total + (k as u64)) % 4294967296;
+    }
+    End::Ran(low(done as u64), low(total))
+}
+
+// How many records the trace has. (As a number of its own it comes with its range.)
+fn record_count(l: Layout) -> usize
+    ensures { λ r. ⌜ r ≡ l .records ⌝ }
+{
+    l.records
+}
+
+// A count that is below 2^32.
+fn low(n: u64) -> u32
+    ensures { λ r. ⌜ r ≡ n % 4294967296 ⌝ }
+{
+    (n % 4294967296) as u32
+}
+
+fn least(a: usize, b: usize) -> usize
+    ensures { λ r. ⌜ r ≤ b ⌝ }
+    ensures { λ r. ⌜ (a ≤ b → r ≡ a) ⌝ }
+{
+    if a < b { a } else { b }
+}
+
+// The trace of a file, over buffers that have the sizes of an accepted one's, but for its last line.
+fn start(file: &[u8], l: Layout, state: &mut [u8], findings: &mut [u8]) -> End
+    requires { ⌜ Offered (now file) l (now state) (now findings) ⌝ }
+    ensures { λ r. ⌜ r ≡ endOf (now (file .entry)) ⌝ }
+{
+    let number = evaluator::fresh(file, state);
+    if number != 0 {
+        return End::Refused(number);
+    }
+    let groups = casefile::body(file, casefile::BODY_G);
+    let inputs = casefile::body(file, casefile::BODY_I);
+    let blocks = casefile::body(file, casefile::BODY_B);
+    let records = casefile::body(file, casefile::BODY_T);
+    let order = evaluator::block_order(file, l, blocks);
+    run(
+        file,
+        l,
+        groups,
+        inputs,
+        blocks,
+        records,
+        &order,
+        state,
+        findings,
+    )
+}
+
+// The trace of a file.
+pub fn trace(file: &[u8]) -> End
+    ensures { λ r. ⌜ r ≡ endOf (now (file .entry)) ⌝ }
+{
+    let mut state = [0u8; GROUPS + STATE_SIZE * BLOCKS];
+    let mut findings = [0u8; FINDING_SIZE * BLOCKS];
+    let l = casefile::layout_of(file);
+    let blocks = least(l.blocks, BLOCKS);
+    let size = least(l.groups, GROUPS) + STATE_SIZE * blocks;
+    let room = FINDING_SIZE * blocks;
+    let end = start(file, l, &mut state[..size], &mut findings[..room]);
+    print_last(end);
+    end
+}

@@ -1,0 +1,8 @@
+/* What the example uses of C's headers, for a compiler that comes without them. */
+#ifndef KIT_INTTYPES_H
+#define KIT_INTTYPES_H
+#include <stdint.h>
+#define PRId32 __INT32_FMTd__
+#define PRIu32 __UINT32_FMTu__
+#define PRId64 __INT64_FMTd__
+#endif
