@@ -7,8 +7,8 @@ use lib.ListN.{replicate}
 use Rattle.wire.specs.Words.{bytes2, bytes4}
 use Rattle.wire.specs.Records.{slot, gather}
 use Rattle.wire.specs.Places.{firstBad, all}
-use Rattle.number.specs.Types.{typeOf, value, inside}
-use Rattle.number.specs.Results.{exact, settled, outcome, textOf}
+use Rattle.numbers.specs.Types.{typeOf, value, inside}
+use Rattle.numbers.specs.Results.{exact, settled, outcome, textOf}
 use Rattle.casefile.specs.declared.Verdict.{Verdict}
 use Rattle.casefile.specs.Layout.{bodyStart, bodySize, device, groupCount, runLinked, inputCount, inputRecord, blockCount, blockRecord, parametersIn, linkIn, outputCount, outputRecord, recordSize, recordOf}
 use Rattle.casefile.specs.Refusal.{numberOf}

@@ -6,9 +6,9 @@ ghost use Prim.Native.Nat.{_≤_};
 ghost use lib.ListN.{length};
 use libc::STDIN_FILENO;
 use libc::STDOUT_FILENO;
-use number::NumType;
-use number::Op;
-use number::Outcome;
+use numbers::NumType;
+use numbers::Op;
+use numbers::Outcome;
 
 // The operation that a vector's first byte names.
 fn op_of(b: u8) -> Op {
@@ -16,7 +16,7 @@ fn op_of(b: u8) -> Op {
         0 => Op::Add,
         1 => Op::Sub,
         2 => Op::Mul,
-        _ => Op::Div(number::rounding_of(b - 3)),
+        _ => Op::Div(numbers::rounding_of(b - 3)),
     }
 }
 
@@ -47,7 +47,7 @@ fn sign(neg: bool, out: &mut [u8], at: usize) -> usize {
 
 // The line of a word of type t.
 fn number_line(t: NumType, w: u32, out: &mut [u8], at: usize) -> usize {
-    let v = number::load(t, w);
+    let v = numbers::load(t, w);
     let mut text = [0u8; 20];
     let k = io::decimal(v.mag, &mut text);
     let start = sign(v.neg, out, at);
@@ -59,12 +59,12 @@ fn number_line(t: NumType, w: u32, out: &mut [u8], at: usize) -> usize {
 fn line(v: &[u8], out: &mut [u8], at: usize) -> usize
     requires { ⌜ 12 ≤ length (now v) ⌝ }
 {
-    let ta = number::type_of(v[1]);
-    let tb = number::type_of(v[2]);
-    let t = number::type_of(v[3]);
+    let ta = numbers::type_of(v[1]);
+    let tb = numbers::type_of(v[2]);
+    let t = numbers::type_of(v[3]);
     let a = word(v[4], v[5], v[6], v[7]);
     let b = word(v[8], v[9], v[10], v[11]);
-    match number::compute(op_of(v[0]), ta, a, tb, b, t) {
+    match numbers::compute(op_of(v[0]), ta, a, tb, b, t) {
         Outcome::Below => append(b"below\n", out, at),
         Outcome::Above => append(b"above\n", out, at),
         Outcome::Value(w) => number_line(t, w, out, at),

@@ -11,7 +11,7 @@ use native.Mathlib.Omega.{arith}
 use borrow.Author.Tests.{lt-ltb, le-ltb}
 use lib.IntN.{ℤ, pos, negsuc, natAbs}
 use lib.ListN.{length, length-append}
-use Rattle.number.specs.Types.{isNeg}
+use Rattle.numbers.specs.Types.{isNeg}
 use Rattle.report.specs.Decimal.{digit, digitsWithin, decimal, signedDecimal, readOn, valueOf, Digits, Numeral}
 
 -- ---- one digit more

@@ -7,9 +7,9 @@ use native.Mathlib.Omega.{arith}
 use lib.ListN.{length, take, length-append}
 use lib.Seq.{sets}
 use Rattle.wire.proofs.Stores.{take-sets}
-use Rattle.number.specs.Types.{value}
-use Rattle.number.specs.declared.NumType.{NumType}
-use Rattle.number.proofs.Range.{value-small}
+use Rattle.numbers.specs.Types.{value}
+use Rattle.numbers.specs.declared.NumType.{NumType}
+use Rattle.numbers.proofs.Range.{value-small}
 use Rattle.report.specs.Lines.{findingLine, endLine, refusedLine, Printed}
 use Rattle.report.proofs.Decimal.{decimal-ten, signed-eleven}
 

@@ -2,7 +2,7 @@
 -- Assumes nothing.
 use mathlib.Core.Path.{_≡_, refl}
 use mathlib.Core.List.{map, _++_}
-use Rattle.number.specs.Types.{value}
+use Rattle.numbers.specs.Types.{value}
 use Rattle.report.specs.Decimal.{digitsWithin, decimal, signedDecimal}
 use Rattle.report.specs.Lines.{findingLine, endLine, refusedLine, lineFeed}
 use Rattle.report.specs.Marked.{codes, Row, found, marked}

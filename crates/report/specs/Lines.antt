@@ -6,8 +6,8 @@ use Prim.Native.Nat.{ℕ, _+_, _≤_}
 use mathlib.Core.List.{List, [], _∷_, _++_}
 use lib.ListN.{length}
 use lib.Seq.{sets}
-use Rattle.number.specs.Types.{value}
-use Rattle.number.specs.declared.NumType.{NumType}
+use Rattle.numbers.specs.Types.{value}
+use Rattle.numbers.specs.declared.NumType.{NumType}
 use Rattle.report.specs.Decimal.{decimal, signedDecimal}
 
 -- 01, "The trace program": the first words of the lines

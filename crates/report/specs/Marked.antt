@@ -6,9 +6,9 @@ use Prim.Native.String as String
 use Prim.Native.String.{String}
 use mathlib.Core.List.{List, [], _∷_}
 use lib.IntN.{ℤ, pos, negsuc}
-use Rattle.number.specs.Types.{wordOf}
-use Rattle.number.specs.declared.NumType.{NumType}
-use Rattle.number.specs.declared.NumType.the-variants.{Int16, Uint16, Int32, Uint32}
+use Rattle.numbers.specs.Types.{wordOf}
+use Rattle.numbers.specs.declared.NumType.{NumType}
+use Rattle.numbers.specs.declared.NumType.the-variants.{Int16, Uint16, Int32, Uint32}
 use Rattle.report.specs.Lines.{findingLine, endLine, refusedLine}
 
 -- general: the codes of a text's characters

@@ -2,11 +2,11 @@
 // answers the line's length. What lies past the end of the buffer is not stored; a buffer of 96 bytes takes every line whole.
 ghost use mathlib.Core.Path.{_≡_};
 ghost use Prim.Native.Nat.{_+_, _≤_};
-ghost use Rattle.number.specs.Types.{value};
+ghost use Rattle.numbers.specs.Types.{value};
 ghost use lib.ListN.{length, set};
 ghost use Rattle.report.specs.Decimal.{decimal, signedDecimal};
 ghost use Rattle.report.specs.Lines.{field, findingLine, endLine, refusedLine, Printed, Put};
-use number::NumType;
+use numbers::NumType;
 
 // A byte at a place, where the buffer reaches that far.
 fn put_byte(out: &mut [u8], at: usize, b: u8)
@@ -86,7 +86,7 @@ fn put_input(out: &mut [u8], at: usize, t: NumType, w: u32) -> usize
     ensures { λ r. ⌜ Put (field (signedDecimal (value t w))) (now (out .entry)) at (now (out .exit)) r ⌝ }
     ensures { λ r. ⌜ r ≤ at + 12 ⌝ }
 {
-    let v = number::load(t, w);
+    let v = numbers::load(t, w);
     let magnitude = v.mag as u32;
     put_byte(out, at, b' ');
     if v.neg {

@@ -15,8 +15,8 @@ fn line(record: &[u8], out: &mut [u8]) -> usize
     let cycle = wire::read32(record, 8);
     let x = wire::read32(record, 12);
     if kind == 0 {
-        let ta = number::type_of(wire::byte(record, 2));
-        let tb = number::type_of(wire::byte(record, 3));
+        let ta = numbers::type_of(wire::byte(record, 2));
+        let tb = numbers::type_of(wire::byte(record, 3));
         let text = wire::read16(record, 4);
         let diagnosis = wire::read16(record, 6);
         let y = wire::read32(record, 16);

@@ -9,7 +9,7 @@ use block::STATE_SIZE;
 use casefile::Layout;
 use evaluator::Answer;
 use libc::STDOUT_FILENO;
-use number::NumType;
+use numbers::NumType;
 
 // An accepted file has at most so many groups and blocks.
 const GROUPS: usize = 8;
@@ -35,7 +35,7 @@ fn shown_type(blocks: &[u8], b: u8, port: u8) -> NumType {
     if kind == kind::TWOHAND {
         return NumType::Uint32;
     }
-    number::type_of(kind::type_in(kind, casefile::parameters_of(r), port))
+    numbers::type_of(kind::type_in(kind, casefile::parameters_of(r), port))
 }
 
 // The line of one finding.

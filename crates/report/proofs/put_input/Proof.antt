@@ -2,9 +2,9 @@
 use mathlib.Core.Path.{sym, ap, _∙_}
 use native.Mathlib.Omega.{arith}
 use borrow.Author.Needs.{needs}
-use Rattle.number.specs.Types.{value}
-use Rattle.number.specs.declared.Signed.{Signed}
-use Rattle.number.proofs.Range.{value-small}
+use Rattle.numbers.specs.Types.{value}
+use Rattle.numbers.specs.declared.Signed.{Signed}
+use Rattle.numbers.proofs.Range.{value-small}
 use Rattle.report.proofs.Decimal.{signed-minus, signed-plain}
 use Rattle.report.proofs.Puts.{put-first, put-second}
 use Rattle.report.proofs.put_input.Statement.{statement}
