@@ -1,19 +1,17 @@
 #!/usr/bin/env python3
-"""Write the sequences of the program crate block_steps, and what it has to print.
+"""Writes requests for cycles (`Y`) of single blocks and the answers that `batch` has to give, for tests/corpus.
 
-    python3 tests/block_steps.py BATCH
+    tests/block_steps.py BATCH REQUESTS ANSWERS
 
-writes crates/block_steps/stdin and crates/block_steps/stdout, always the same. `rt check` then runs the program on the one and compares
-what it prints with the other.
+BATCH is the program `batch` of the second implementation (tests/reference), whose answers these are. Each sequence is a
+case file of one block, in a group whose Run is linked, with an external input for each linked port and an external
+output for each port, and runs cycle by cycle from the fresh state or from another well-formed one. States are asked
+about by one cycle each: good ones, and damaged ones, which are refused with 11. The buffers that a cycle only writes
+come filled with 238.
 
-BATCH is the program `batch` of the reference implementation of document 01, a second source that was written apart from the Rattle code: it
-answers requests `Y` (a case file, a cycle record, state, outputs, findings) with what one cycle leaves. Each sequence becomes a case file of
-one block, in a group whose Run is linked, with an external input for each linked port and an external output for each port, and runs there
-cycle by cycle from the fresh state or from another well-formed one. The lines are the state bytes, the outputs and the finding that the reference leaves. The phase and ErrAck
-that the program is given are computed here from the group bytes that are sent, by the three steps of document 01, "One cycle", and the group
-byte that they give is compared with the reference's.
-
-Sequences of states (128 added to the kind) are good states and damaged ones; the reference refuses those that are not well formed with 11.
+The group's byte is computed here as well, by the three steps of document 01, "One cycle". The script fails where the
+second implementation leaves another one, where it refuses a cycle of a sequence, and where something that has to come
+up does not.
 """
 import pathlib
 import random
@@ -28,23 +26,23 @@ GREATEST = [2**15 - 1, 2**16 - 1, 2**31 - 1, 2**32 - 1]
 PORTS_IN = {DECOUPLE: 8, TWOHAND: 4, ADD: 2, SUB: 2, MUL: 2, DIV: 2}
 PORTS_OUT = {DECOUPLE: 8, TWOHAND: 2, ADD: 2, SUB: 2, MUL: 2, DIV: 2}
 RUN, ACK, COM, FAULT = 1, 2, 4, 8
-SAFE, ERROR = 3, 4
+RUN_ACK = RUN | ACK
+ERROR = 4
 FRESH = bytes([2]) + bytes(15)
+LENT = bytes([238])
 
 
 class Reference:
-    """The reference implementation, one request at a time."""
+    """The second implementation, one request at a time."""
 
     def __init__(self, batch):
         self.process = subprocess.Popen([batch], stdin=subprocess.PIPE, stdout=subprocess.PIPE)
 
-    def cycle(self, file, record, state, outputs, findings):
-        buffers = [file, record, state, outputs, findings]
-        self.process.stdin.write(b'Y' + b''.join(struct.pack('<I', len(b)) + b for b in buffers))
+    def answer(self, request, size):
+        """The answer to a request for a cycle, whose three lent buffers have this many bytes."""
+        self.process.stdin.write(request)
         self.process.stdin.flush()
-        read = self.process.stdout.read
-        refusal, count = struct.unpack('<BI', read(5))
-        return refusal, count, read(len(state)), read(len(outputs)), read(len(findings))
+        return self.process.stdout.read(5 + size)
 
 
 class Block:
@@ -101,42 +99,62 @@ def group_step(held, group, pending):
 
 
 class Vectors:
+    """The requests and their answers, and what came up."""
+
     def __init__(self, reference):
-        self.reference, self.stdin, self.stdout, self.count = reference, b'', [], 0
+        self.reference, self.requests, self.answers, self.seen = reference, [], [], set()
+        self.cycles = self.states_asked = 0
+
+    def ask(self, block, record, state):
+        """The request for a cycle and its answer, as bytes."""
+        buffers = [block.file(), record, state, LENT * (4 * len(block.shown)), LENT * 16]
+        request = b'Y' + b''.join(struct.pack('<I', len(b)) + b for b in buffers)
+        return request, self.reference.answer(request, sum(map(len, buffers[2:])))
+
+    def keep(self, request, answer):
+        self.requests.append(request)
+        self.answers.append(answer)
+
+    def about(self, block, state):
+        """A cycle that is refused with 11 where the block's state is not well formed."""
+        record = struct.pack('<HB', 10, RUN) + bytes(4 * len(block.linked))
+        request, answer = self.ask(block, record, bytes([0]) + state)
+        if answer[0] not in (0, 11):
+            sys.exit(f'kind {block.kind}, state {state.hex()}: the second implementation answers {answer[0]}')
+        return request, answer
 
     def well_formed(self, block, state):
-        record = struct.pack('<HB', 10, RUN) + bytes(4 * len(block.linked))
-        refusal = self.reference.cycle(block.file(), record, bytes([0]) + state, bytes(4 * len(block.shown)), bytes(16))[0]
-        assert refusal in (0, 11), refusal
-        return refusal == 0
+        return self.about(block, state)[1][0] == 0
 
-    def sequence(self, block, cycles, start=None):
-        """Cycles are (group byte, elapsed ms, words by port); the block's states, line by line, from the fresh state or from `start`."""
-        file, state, held = block.file(), bytes([0]) + (start or FRESH), 0
-        self.stdin += bytes([block.kind]) + block.parameters + bytes([len(cycles)]) + (start or bytes(16))
+    def sequence(self, block, cycles, start=FRESH):
+        """Cycles are (group byte, elapsed ms, words by port), from a state of the block, its group not held."""
+        state, held = bytes([0]) + start, 0
         for group, ms, words in cycles:
             held, phase = group_step(held, group, group & (COM | FAULT) or state[1] == ERROR)
             record = struct.pack('<HB', ms, group) + b''.join(struct.pack('<I', words[p]) for p in block.linked)
-            refusal, count, state, outputs, findings = self.reference.cycle(
-                file, record, state, bytes(4 * len(block.shown)), bytes(16))
-            assert refusal == 0 and state[0] == held, (refusal, block.kind, block.parameters, group, ms, words)
-            shown = {p: outputs[4 * i:4 * i + 4] for i, p in enumerate(block.shown)}
-            line = [state[1:].hex(), *(shown.get(p, bytes(4)).hex() for p in range(PORTS_OUT[block.kind]))]
-            self.stdout.append(' '.join(line + [findings.hex()] * count))
-            self.stdin += struct.pack('<BBH', phase, group >> 1 & 1, ms)
-            self.stdin += b''.join(struct.pack('<I', w) for w in words)
-            self.count += 1
+            request, answer = self.ask(block, record, state)
+            before, state = state, answer[5:5 + len(state)]
+            if answer[0] != 0 or state[0] != held:
+                sys.exit(f'kind {block.kind}, parameters {block.parameters.hex()}, group byte {group}, {ms} ms, inputs '
+                         f'{words}: the second implementation answers {answer[0]}, group byte {state[0]}, not {held}')
+            self.keep(request, answer)
+            self.cycles += 1
+            self.seen.add((block.kind, 'phase', phase))
+            self.seen.add((block.kind, 'step', before[1], state[1]))
+            if state[1] == ERROR != before[1]:
+                self.seen.add((block.kind, 'diagnosis', state[3]))
 
     def states(self, block, states):
         """Whether each state is well formed."""
-        self.stdin += bytes([128 + block.kind]) + block.parameters + bytes([len(states)])
         for state in states:
-            self.stdin += state
-            self.stdout.append('formed' if self.well_formed(block, state) else 'refused')
+            request, answer = self.about(block, state)
+            self.keep(request, answer)
+            self.states_asked += 1
+            self.seen.add((block.kind, 'refused' if answer[0] else 'formed', state[0]))
 
 
 def raw(block, bits):
-    """The words of TWOHAND's inputs with these effective values; an inactive port reads what stands there, without effect."""
+    """The words of TWOHAND's inputs with these effective values."""
     opened = block.parameters[1]
     return [(bits ^ opened) >> p & 1 for p in range(4)]
 
@@ -152,6 +170,8 @@ def state(code, diagnosis=0, first=0, second=0, entry=0, output=0, spare=0, spar
 
 
 def directed_twohand(vectors):
+    def run(*cycles, start=FRESH):
+        vectors.sequence(b, hands(b, *cycles), start)
     one, two, all4 = 0b0011, 0b1100, 0b1111
     for opened in (0, 0b0101, 0b1111):
         b = twohand(opened=opened)
@@ -168,14 +188,14 @@ def directed_twohand(vectors):
                 [0, one, two, 0, 0],                   # bit 6 in 11
                 [0, two, one, 0, 0],                   # bit 6 in 12
                 [0, one, 0b1101, 0b1110, all4]]:
-            vectors.sequence(b, hands(b, *path))
+            run(*path)
     # one-channel pairs, and a mix
     for active in (0b0101, 0b1010, 0b0110, 0b0111, 0b1101):
         b = twohand(active, opened=active & 0b0110)
         p1, p2 = active & 3, active & 12
-        vectors.sequence(b, hands(b, 0, p1, active, active, p1, 0, p2, active, 0, 0, active, active, 0))
-        vectors.sequence(b, hands(b, 0, p1, p2, (0, 10, RUN | ACK), (0, 10), 0, p2, p1))
-        vectors.sequence(b, hands(b, active, p1, p2, 0, p2, p1, (p1, 10, RUN | ACK), (0, 10, RUN | ACK), 0, 0, 0))
+        run(0, p1, active, active, p1, 0, p2, active, 0, 0, active, active, 0)
+        run(0, p1, p2, (0, 10, RUN_ACK), (0, 10), 0, p2, p1)
+        run(active, p1, p2, 0, p2, p1, (p1, 10, RUN_ACK), (0, 10, RUN_ACK), 0, 0, 0)
     # discrepancy: at D, at D + 1, a change of sides, an agreement in between
     for pair, shift in ((0, 0), (1, 2)):
         for d in (1, 100, 60000):
@@ -183,15 +203,15 @@ def directed_twohand(vectors):
             x, y = 1 << shift, 2 << shift
             whole = [(x, 1000)] * (d // 1000)
             rest = [(x, d % 1000)] if d % 1000 else []
-            vectors.sequence(b, hands(b, 0, (x, 7), *whole, *rest, (0, 1)))
-            vectors.sequence(b, hands(b, 0, (x, 7), *whole, *rest, (y, 1), y, (y, 10, RUN | ACK), (x, 9, RUN | ACK), (0, 9, RUN | ACK), 0, 0))
-            vectors.sequence(b, hands(b, (x, 7), *whole, (y, d % 1000 or 1000), (0, 5), (x, 9), (y, 1), 3 << shift, (x, 1)))
+            run(0, (x, 7), *whole, *rest, (0, 1))
+            run(0, (x, 7), *whole, *rest, (y, 1), y, (y, 10, RUN_ACK), (x, 9, RUN_ACK), (0, 9, RUN_ACK), 0, 0)
+            run((x, 7), *whole, (y, d % 1000 or 1000), (0, 5), (x, 9), (y, 1), 3 << shift, (x, 1))
     # a pair differs in every state; a state that errs from 1, 3, 13, 2
     b = twohand(d1=50, d2=70)
-    vectors.sequence(b, hands(b, 0, 0b0111, (0b0101, 40), (0b0101, 30), (0b0101, 1), (0, 1, RUN | ACK)))
-    vectors.sequence(b, hands(b, 0, (one, 1), (0b0111, 1), (0b0111, 70), all4, (0b1110, 1), (0b1110, 50), (0b1110, 1)))
-    vectors.sequence(b, hands(b, 0, (0b0101, 1), (0b0101, 71)))
-    vectors.sequence(b, hands(b, (0b0101, 1), (0b0110, 60), (0b0110, 20, RUN | ACK), (0b0100, 20, RUN | ACK), (0, 1, RUN | ACK), 0))
+    run(0, 0b0111, (0b0101, 40), (0b0101, 30), (0b0101, 1), (0, 1, RUN_ACK))
+    run(0, (one, 1), (0b0111, 1), (0b0111, 70), all4, (0b1110, 1), (0b1110, 50), (0b1110, 1))
+    run(0, (0b0101, 1), (0b0101, 71))
+    run((0b0101, 1), (0b0110, 60), (0b0110, 20, RUN_ACK), (0b0100, 20, RUN_ACK), (0, 1, RUN_ACK), 0)
     # the time between the pairs: at T, at T + 1, after both have let go, in 11 and in 12
     for t in (1, 500, 2500):
         b = twohand(t=t)
@@ -200,40 +220,41 @@ def directed_twohand(vectors):
             held = [(hand, 1000)] * (t // 1000)
             rest = t % 1000
             last = [(hand, rest)] if rest else []
-            vectors.sequence(b, hands(b, 0, (hand, 33), *held, *last, (hand, 1), (all4, 1, RUN | ACK), (0, 1, RUN | ACK), 0, 0))
-            vectors.sequence(b, hands(b, 0, (hand, 33), *held, (all4, max(rest, 1)), all4, 0))
-            vectors.sequence(b, hands(b, 0, (hand, 33), *held, (all4, rest + 1), (0, 1), 0))
-            vectors.sequence(b, hands(b, 0, (hand, 33), *held, (0, rest + 1), (0, 1, RUN | ACK), 0))
-            vectors.sequence(b, hands(b, 0, (hand, 33), *held, (other, rest + 1), (other, 1, RUN | ACK), (0, 1, RUN | ACK), 0))
-            vectors.sequence(b, hands(b, 0, (hand, 33), (hand, 1), (0, 1), (hand, 1), *held[:1], (hand, 1)))
+            run(0, (hand, 33), *held, *last, (hand, 1), (all4, 1, RUN_ACK), (0, 1, RUN_ACK), 0, 0)
+            run(0, (hand, 33), *held, (all4, max(rest, 1)), all4, 0)
+            run(0, (hand, 33), *held, (all4, rest + 1), (0, 1), 0)
+            run(0, (hand, 33), *held, (0, rest + 1), (0, 1, RUN_ACK), 0)
+            run(0, (hand, 33), *held, (other, rest + 1), (other, 1, RUN_ACK), (0, 1, RUN_ACK), 0)
+            run(0, (hand, 33), (hand, 1), (0, 1), (hand, 1), *held[:1], (hand, 1))
     # bits together, as far as cycles from the fresh state lead there: 0 and 1; 1 and 2 in 11; 0 and 2 in 12; 2 and 6
     b = twohand(d1=20, d2=20, t=30)
-    vectors.sequence(b, hands(b, 0, (0b0101, 5), (0b0101, 21), (0b0001, 1, RUN | ACK), (0, 1, RUN | ACK), 0))
-    vectors.sequence(b, hands(b, 0, one, (0b0111, 5), (0b0111, 40), (0b0100, 1, RUN | ACK), (0, 1, RUN | ACK), 0))
-    vectors.sequence(b, hands(b, 0, two, (0b1101, 5), (0b1110, 40), (0b0001, 1, RUN | ACK), (0, 1, RUN | ACK), 0))
-    vectors.sequence(b, hands(b, 0, one, (0b0111, 5), (0b1101, 40), (0b1101, 1, RUN | ACK), (0b1100, 1, RUN | ACK), (0, 1, RUN | ACK), 0, 0))
+    run(0, (0b0101, 5), (0b0101, 21), (0b0001, 1, RUN_ACK), (0, 1, RUN_ACK), 0)
+    run(0, one, (0b0111, 5), (0b0111, 40), (0b0100, 1, RUN_ACK), (0, 1, RUN_ACK), 0)
+    run(0, two, (0b1101, 5), (0b1110, 40), (0b0001, 1, RUN_ACK), (0, 1, RUN_ACK), 0)
+    run(0, one, (0b0111, 5), (0b1101, 40), (0b1101, 1, RUN_ACK), (0b1100, 1, RUN_ACK), (0, 1, RUN_ACK), 0, 0)
     # every set of bits, from well-formed states that are about to err
     for code in (11, 12):
         for first in (0, 21):
             for second in (0, 21):
                 for entry in (0, 30):
                     for bits in (0b0101, 0b1101, 0b0111, 0b1100, 0b0011, 0b1111, 0):
-                        vectors.sequence(b, hands(b, (bits, 1), (bits, 1, RUN | ACK), (0, 1, RUN | ACK), 0), state(code, 0, first, second, entry))
+                        about_to = state(code, 0, first, second, entry)
+                        run((bits, 1), (bits, 1, RUN_ACK), (0, 1, RUN_ACK), 0, start=about_to)
     for code in (1, 3, 13):
         for bits in (0b0101, 0b1101, 0b0111, 0b1111):
-            vectors.sequence(b, hands(b, (bits, 1), (0, 1, RUN | ACK), 0), state(code, 0, 21, 21))
+            run((bits, 1), (0, 1, RUN_ACK), 0, start=state(code, 0, 21, 21))
     # a fault of every set of bits, that goes or stays
     for diagnosis in (1, 2, 3, 4, 5, 6, 7, 64, 65, 66, 67, 68, 71):
         for bits in (0, 0b0001, 0b1000, 0b0011, 0b1111):
-            vectors.sequence(b, hands(b, (bits, 1, RUN), (bits, 1, RUN | ACK), (0, 1, RUN | ACK)), state(4, diagnosis))
+            run((bits, 1, RUN), (bits, 1, RUN_ACK), (0, 1, RUN_ACK), start=state(4, diagnosis))
     # the group held from outside, and acknowledged: from each state
     b = twohand(d1=50, t=500)
     for path in ([], [0], [one], [0, one], [0, two], [0, one, all4], [0, one, two], [0, (1, 1), (1, 51)]):
         for held in (RUN | COM, RUN | FAULT, RUN | COM | ACK):
-            vectors.sequence(b, hands(b, *path, (0, 10, held), (0, 10), (0, 10, RUN | ACK), (one, 10, RUN | ACK), (one, 10), 0))
-        vectors.sequence(b, hands(b, *path, (0, 10, 0), (0, 10), (0, 10, ACK), (0, 10, RUN | ACK), (0, 10, RUN | ACK), 0))
-        vectors.sequence(b, hands(b, *path, (0, 10, RUN | ACK), (0, 10), (0, 10, RUN | ACK), (0, 10, RUN | ACK), 0, 0))
-        vectors.sequence(b, hands(b, *path, (1, 10, RUN | ACK), (1, 10, RUN | COM), (0, 10, RUN | ACK), (0, 10, COM | ACK), 0, 0))
+            run(*path, (0, 10, held), (0, 10), (0, 10, RUN_ACK), (one, 10, RUN_ACK), (one, 10), 0)
+        run(*path, (0, 10, 0), (0, 10), (0, 10, ACK), (0, 10, RUN_ACK), (0, 10, RUN_ACK), 0)
+        run(*path, (0, 10, RUN_ACK), (0, 10), (0, 10, RUN_ACK), (0, 10, RUN_ACK), 0, 0)
+        run(*path, (1, 10, RUN_ACK), (1, 10, RUN | COM), (0, 10, RUN_ACK), (0, 10, COM | ACK), 0, 0)
 
 
 def directed_arithmetic(vectors):
@@ -251,19 +272,23 @@ def directed_arithmetic(vectors):
         bad, good = words(*bad), words(*good)
         for path in [
                 # every phase from every state; a fault that stays, that goes, that comes back
-                [(RUN, good), (RUN, bad), (RUN, bad), (RUN | ACK, bad), (RUN | ACK, good), (RUN | ACK, bad), (RUN, good), (RUN, good)],
-                [(RUN, bad), (RUN | ACK, good), (RUN, good), (RUN | ACK, good), (RUN | ACK, good), (RUN, bad), (RUN, good)],
-                [(RUN, bad), (0, good), (RUN, good), (RUN | ACK, good), (RUN, good)],
-                [(RUN | COM, good), (RUN, good), (RUN | ACK, good), (RUN, good), (RUN | FAULT | ACK, bad), (RUN | ACK, bad), (RUN, bad)],
-                [(0, bad), (ACK, bad), (RUN, bad), (RUN | COM | ACK, good), (RUN | COM | ACK, good), (RUN | COM, good), (RUN | ACK, good), (RUN, good)]]:
+                [(RUN, good), (RUN, bad), (RUN, bad), (RUN_ACK, bad), (RUN_ACK, good), (RUN_ACK, bad), (RUN, good),
+                 (RUN, good)],
+                [(RUN, bad), (RUN_ACK, good), (RUN, good), (RUN_ACK, good), (RUN_ACK, good), (RUN, bad), (RUN, good)],
+                [(RUN, bad), (RUN_ACK, good), (RUN_ACK, good), (RUN, bad), (RUN, good)],
+                [(RUN, bad), (0, good), (RUN, good), (RUN_ACK, good), (RUN, good)],
+                [(RUN | COM, good), (RUN, good), (RUN_ACK, good), (RUN, good), (RUN_ACK | FAULT, bad), (RUN_ACK, bad),
+                 (RUN, bad)],
+                [(0, bad), (ACK, bad), (RUN, bad), (RUN_ACK | COM, good), (RUN_ACK | COM, good), (RUN | COM, good),
+                 (RUN_ACK, good), (RUN, good)]]:
             vectors.sequence(block, [(group, 10, w) for group, w in path])
 
 
 def directed_decouple(vectors):
     bits = lambda v: [v >> p & 1 for p in range(8)]
     vectors.sequence(decouple(), [(RUN, 10, bits(1 << p)) for p in range(8)])
-    vectors.sequence(decouple(), [
-        (g, 10, bits(v)) for g, v in [(RUN, 255), (0, 255), (RUN, 170), (RUN | COM, 85), (RUN, 85), (RUN | ACK, 85), (RUN, 85), (RUN | FAULT, 1)]])
+    path = [(RUN, 255), (0, 255), (RUN, 170), (RUN | COM, 85), (RUN, 85), (RUN_ACK, 85), (RUN, 85), (RUN | FAULT, 1)]
+    vectors.sequence(decouple(), [(group, 10, bits(v)) for group, v in path])
 
 
 def random_number(rng, t):
@@ -284,7 +309,8 @@ def random_group(rng):
 def random_twohand(rng):
     active = rng.choice([15, 15, 15, 5, 6, 9, 10, 7, 11, 13, 14])
     limit = lambda both: rng.choice([0, 1, 20, 100, 1000]) if both else 0
-    return twohand(active, active & rng.randrange(16), limit(active & 3 == 3), limit(active & 12 == 12), rng.choice([0, 0, 1, 50, 300]))
+    opened = active & rng.randrange(16)
+    return twohand(active, opened, limit(active & 3 == 3), limit(active & 12 == 12), rng.choice([0, 0, 1, 50, 300]))
 
 
 def random_hands(rng, block, n):
@@ -306,9 +332,14 @@ def random_state(vectors, rng, block):
     d1, d2, t = struct.unpack('<HHH', block.parameters[2:8])
     some = lambda top: rng.choice([0, 1, top, top + 1])
     while True:
-        found = state(rng.choice([1, 3, 4, 5, 11, 11, 12, 12, 13]), rng.choice([0, 0, 1, 2, 4, 6, 64, 68]), some(d1), some(d2), some(t))
+        code, diagnosis = rng.choice([1, 3, 4, 5, 11, 11, 12, 12, 13]), rng.choice([0, 0, 1, 2, 4, 6, 64, 68])
+        found = state(code, diagnosis, some(d1), some(d2), some(t))
         if vectors.well_formed(block, found):
             return found
+
+
+def random_cycles(rng, words, n):
+    return [(random_group(rng), rng.randint(1, 1000), words()) for _ in range(n)]
 
 
 def random_sequences(vectors, rng):
@@ -322,52 +353,82 @@ def random_sequences(vectors, rng):
         kind = rng.choice([ADD, SUB, MUL, DIV])
         a, b, out = (rng.randrange(4) for _ in range(3))
         block = arithmetic(kind, a, b, out, rng.randrange(3) if kind == DIV else 0)
-        vectors.sequence(block, [(random_group(rng), rng.randint(1, 1000), [random_number(rng, a), random_number(rng, b)])
-                                 for _ in range(rng.randint(4, 14))])
+        words = lambda: [random_number(rng, a), random_number(rng, b)]
+        vectors.sequence(block, random_cycles(rng, words, rng.randint(4, 14)))
     for _ in range(20):
         block = decouple([p for p in range(8) if rng.random() < 0.8])
-        vectors.sequence(block, [(random_group(rng), rng.randint(1, 1000), [rng.randrange(2) if p in block.linked else 0 for p in range(8)])
-                                 for _ in range(rng.randint(3, 9))])
+        words = lambda: [rng.randrange(2) if p in block.linked else 0 for p in range(8)]
+        vectors.sequence(block, random_cycles(rng, words, rng.randint(3, 9)))
 
 
 def damaged_states(vectors, rng):
     codes = [1, 2, 3, 4, 5, 11, 12, 13]
     plain = [state(code) for code in range(17)]
     spare = [state(2, spare=1), state(2, spare2=1), state(2, spare2=256)]
+    times = [state(1, first=1), state(1, second=1), state(1, entry=1)]
     for kind in (ADD, DIV):
         for out in range(4):
-            block = arithmetic(kind, 0, 0, out)
-            words = {z + step for z in (LEAST[out], GREATEST[out]) for step in (-1, 0, 1)} | {-32768, -32769, 65535, 65536, 2**31, 5}
-            vectors.states(block, plain + spare + [state(4, d) for d in range(5)] + [state(c, 1) for c in codes]
-                           + [state(1, output=z) for z in sorted(words)] + [state(c, 2 if c == 4 else 0, output=5) for c in codes]
-                           + [state(1, first=1), state(1, second=1), state(1, entry=1), state(4, 1, first=1), state(1, 1, output=5)])
-    vectors.states(decouple(), plain + spare + [state(1, output=w) for w in (1, 255, 256, 2**31)]
-                   + [state(2, output=1), state(1, 1), state(1, first=1), state(1, second=1), state(1, entry=1)])
+            words = {z + step for z in (LEAST[out], GREATEST[out]) for step in (-1, 0, 1)}
+            words |= {-32768, -32769, 65535, 65536, 2**31, 5}
+            diagnoses = [state(4, d) for d in range(5)] + [state(c, 1) for c in codes]
+            outputs = [state(1, output=z) for z in sorted(words)]
+            outputs += [state(c, 2 if c == 4 else 0, output=5) for c in codes]
+            several = [state(4, 1, first=1), state(1, 1, output=5)]
+            vectors.states(arithmetic(kind, 0, 0, out), plain + spare + diagnoses + outputs + times + several)
+    outputs = [state(1, output=w) for w in (1, 255, 256, 2**31)] + [state(2, output=1)]
+    vectors.states(decouple(), plain + spare + outputs + [state(1, 1)] + times)
     for d1, d2, t in [(0, 0, 0), (100, 0, 0), (0, 200, 0), (0, 0, 300), (100, 200, 300), (60000, 60000, 2500)]:
         block = twohand(d1=d1, d2=d2, t=t)
-        limits = [state(c, **{field: value}) for c in codes for field, top in (('first', d1 + 1), ('second', d2 + 1), ('entry', t))
-                  for value in (1, top, top + 1)]
-        vectors.states(block, plain + spare + [state(4, d) for d in range(0, 80)] + [state(4, 1 << b) for b in range(7, 16)])
-        vectors.states(block, limits + [state(c, output=1) for c in codes] + [state(c, 64) for c in codes])
+        tops = (('first', d1 + 1), ('second', d2 + 1), ('entry', t))
+        limits = [state(c, **{field: v}) for c in codes for field, top in tops for v in (1, top, top + 1)]
+        diagnoses = [state(4, d) for d in range(80)] + [state(4, 1 << b) for b in range(7, 16)]
+        vectors.states(block, plain + spare + diagnoses + limits)
+        vectors.states(block, [state(c, output=1) for c in codes] + [state(c, 64) for c in codes])
     for _ in range(60):
         block = random_twohand(rng)
         d1, d2, t = struct.unpack('<HHH', block.parameters[2:8])
         some = lambda top: rng.choice([0, 0, 1, top, top + 1, top + 2])
-        vectors.states(block, [state(rng.choice(codes), rng.choice([0, 0, 1, 2, 4, 64, 65, 70]), some(d1), some(d2), some(t)) for _ in range(12)])
+        for _ in range(12):
+            code, diagnosis = rng.choice(codes), rng.choice([0, 0, 1, 2, 4, 64, 65, 70])
+            vectors.states(block, [state(code, diagnosis, some(d1), some(d2), some(t))])
+
+
+# The steps from code to code that come up for each kind.
+DECOUPLE_STEPS = {1: [1, 2], 2: [1, 2]}
+ARITHMETIC_STEPS = {1: [1, 2, 4], 2: [1, 2, 4], 4: [2, 4, 5], 5: [1, 2, 4, 5]}
+TWOHAND_STEPS = {1: [1, 2, 4, 13], 2: [2, 3, 13], 3: [2, 3, 4, 11, 12], 4: [2, 4, 5], 5: [2, 3, 5, 13],
+                 11: [1, 2, 3, 4, 11, 13], 12: [1, 2, 3, 4, 12, 13], 13: [2, 3, 4, 13]}
+
+
+def wanted():
+    """What has to come up: every phase, step and diagnosis of every kind, and of the states of DECOUPLE, TWOHAND, ADD
+    and DIV each code that the kind has well formed and not, and each that it has not refused. A pair that is full does
+    not differ, so bit 6 of TWOHAND comes with at most one of bits 0 and 1."""
+    for kind in range(DECOUPLE, DIV + 1):
+        steps = DECOUPLE_STEPS if kind == DECOUPLE else TWOHAND_STEPS if kind == TWOHAND else ARITHMETIC_STEPS
+        diagnoses = [] if kind == DECOUPLE else [*range(1, 8), 64, 65, 66, 68, 69, 70] if kind == TWOHAND else [1, 2]
+        yield from ((kind, 'phase', phase) for phase in range(4))
+        yield from ((kind, 'step', old, new) for old in steps for new in steps[old])
+        yield from ((kind, 'diagnosis', diagnosis) for diagnosis in diagnoses)
+        if kind in (DECOUPLE, TWOHAND, ADD, DIV):
+            yield from ((kind, 'formed', code) for code in steps)
+            yield from ((kind, 'refused', code) for code in range(17))
 
 
 def main():
-    vectors = Vectors(Reference(sys.argv[1]))
+    batch, requests, answers = sys.argv[1:]
+    vectors = Vectors(Reference(batch))
     directed_twohand(vectors)
     directed_arithmetic(vectors)
     directed_decouple(vectors)
     random_sequences(vectors, random.Random(20))
     damaged_states(vectors, random.Random(21))
-    crate = pathlib.Path(__file__).resolve().parent.parent / 'crates' / 'block_steps'
-    broken_off = bytes([TWOHAND]) + twohand().parameters + bytes([2]) + bytes(7)
-    (crate / 'stdin').write_bytes(vectors.stdin + broken_off)
-    (crate / 'stdout').write_text(''.join(line + '\n' for line in vectors.stdout), newline='\n')
-    print(vectors.count, 'cycles,', len(vectors.stdout) - vectors.count, 'states')
+    missing = [what for what in wanted() if what not in vectors.seen]
+    if missing:
+        sys.exit(f'did not come up (kind, what): {missing}')
+    pathlib.Path(requests).write_bytes(b''.join(vectors.requests))
+    pathlib.Path(answers).write_bytes(b''.join(vectors.answers))
+    print(f'blocks: {vectors.cycles} cycles in sequences, {vectors.states_asked} states')
 
 
 if __name__ == '__main__':

@@ -1,20 +1,19 @@
 #!/usr/bin/env python3
-"""Writes the requests and the expected answers of the program casefile_check: crates/casefile_check/stdin and stdout.
+"""Writes requests to check a file (`C`) and the answers that `batch` has to give, for tests/corpus.
 
-    casefile_vectors.py [BATCH]
+    tests/casefile_vectors.py BATCH REQUESTS ANSWERS
 
-A case is a file with the number of document 01, "Turned down: numbers and order" (0 accepted), that was written down here from reading that document:
-for every clause a file that breaks only it, at its boundary, and the neighbour that is accepted. After them come damaged copies of accepted files, whose
-numbers (DAMAGED below) are what a second implementation answers. BATCH is that implementation's program, which answers one byte to `C`, a 32-bit length
-and a file: with it every number is compared, and the script fails where one differs.
+A case is a file with the number of document 01, "Turned down: numbers and order" (0 accepted), that was written down
+here from reading that document: for every clause a file that breaks only it, at its boundary, and the neighbour that is
+accepted. After them come damaged copies of accepted files, whose numbers are the second implementation's: BATCH is its
+program. It is asked about every file, and the script fails where a number that is written down is not the one that it
+answers, and where a number does not come up.
 """
-import os
+import pathlib
 import struct
 import subprocess
 import sys
 
-HERE = os.path.dirname(os.path.abspath(__file__))
-PROGRAM = os.path.join(HERE, '..', 'crates', 'casefile_check')
 DECOUPLE, TWOHAND, ADD, SUB, MUL, DIV = 1, 2, 3, 4, 5, 6
 INT16, UINT16, INT32, UINT32, BOOL = 0, 1, 2, 3, 4
 EL6900, EL6910 = 0, 1
@@ -109,7 +108,7 @@ def mixed():
         inputs=[(0, BOOL), (0, BOOL), (0, BOOL), (0, BOOL), (1, INT16), (1, UINT32)],
         blocks=[
             block(DECOUPLE, order=3, links={0: ext(0), 7: out(1, 1)}),
-            block(TWOHAND, order=0, parameters=twohand(0b0111, 0b0101, d1=500, t=2500), links=[ext(0), ext(1), out(0, 7)]),
+            block(TWOHAND, parameters=twohand(0b0111, 0b0101, d1=500, t=2500), links=[ext(0), ext(1), out(0, 7)]),
             block(ADD, order=2, group=1, parameters=bytes([INT16, UINT32, INT32]), links=[ext(4), ext(5)]),
             block(DIV, order=1, group=1, parameters=bytes([INT32, INT32, INT16, 2]), links=[out(2, 1), out(2, 1)]),
             block(MUL, order=4, group=1, parameters=bytes([INT16, INT16, UINT16]), links=[out(3, 1), NONE]),
@@ -121,7 +120,7 @@ def mixed():
 
 
 def full():
-    """64 blocks, 128 inputs, 64 outputs. Of each DECOUPLE the first four channels are put out and read the other four."""
+    """64 blocks, 128 inputs, 64 outputs. Of each DECOUPLE four channels are put out and read the other four."""
     records = []
     for b in range(64):
         if b % 4 == 0:
@@ -131,7 +130,8 @@ def full():
             links = [ext(b), ext(b + 1), out(b - 1, 4), out(b, 0)]
             records.append(block(TWOHAND, order=63 - b, parameters=twohand(0b1111, 0b0011, 100, 200, 300), links=links))
         else:
-            records.append(block(ADD + b % 4, order=63 - b, parameters=bytes([INT16, INT32, INT32]), links=[ext(64 + b), out(b, 1)]))
+            links = [ext(64 + b), out(b, 1)]
+            records.append(block(ADD + b % 4, order=63 - b, parameters=bytes([INT16, INT32, INT32]), links=links))
     outputs = [(0, b, p) for b in range(0, 64, 4) for p in range(4)]
     return case_file(inputs=[(0, BOOL)] * 64 + [(0, INT16)] * 64, blocks=records, outputs=outputs)
 
@@ -158,7 +158,8 @@ def sized(total):
             for outputs in range(8):
                 rest = total - (40 + 1 + groups + 2 * inputs + 40 + 3 * outputs)
                 if rest % (2 + groups + 4 * inputs) == 0:
-                    return case_file(runs=[1] * groups, inputs=[(0, INT16)] * inputs, blocks=[block(ADD)], outputs=[(0, 0, 1)] * outputs, trace=bytes(rest))
+                    return case_file(runs=[1] * groups, inputs=[(0, INT16)] * inputs, blocks=[block(ADD)],
+                                     outputs=[(0, 0, 1)] * outputs, trace=bytes(rest))
     raise AssertionError(total)
 
 
@@ -167,7 +168,8 @@ case(0, sized(65536))
 case(1, sized(65537))
 case(1, adder() + bytes(100_000))
 
-# ---- 2: the table. G starts at 40, each body where the one before ends, T ends with the file; as whole numbers, not modulo 2^32
+# ---- 2: the table. G starts at 40, each body where the one before ends, T ends with the file; as whole numbers, not
+# modulo 2^32
 for step in (-1, 1, 2**31):
     at = 40
     for name, size in (('G', 2), ('I', 4), ('B', 40), ('O', 3), ('T', 0)):
@@ -193,7 +195,8 @@ for device in (EL6900, EL6910):
     case(0, one(block(DECOUPLE), device=device))
 for device in (2, 255):
     case(3, one(block(DECOUPLE), device=device))
-for runs, el6900, el6910 in (((0,), 0, 3), ((1,), 0, 0), ((2,), 3, 3), ((1, 0), 0, 3), ((1, 2), 3, 3), ((1,) * 7 + (0,), 0, 3), ((1,) * 7 + (255,), 3, 3)):
+for runs, el6900, el6910 in (((0,), 0, 3), ((1,), 0, 0), ((2,), 3, 3), ((1, 0), 0, 3), ((1, 2), 3, 3),
+                             ((1,) * 7 + (0,), 0, 3), ((1,) * 7 + (255,), 3, 3)):
     case(el6900, one(block(DECOUPLE), device=EL6900, runs=runs))
     case(el6910, one(block(DECOUPLE), device=EL6910, runs=runs))
 
@@ -229,7 +232,8 @@ for kind in (ADD, SUB, MUL, DIV):
     case(0, arithmetic(kind))
     case(5, arithmetic(kind, device=EL6900))
 case(0, hands())
-case(0, case_file(device=EL6900, runs=(0,), inputs=[(0, BOOL)] * 4, blocks=[block(TWOHAND, parameters=twohand(), links=[ext(p) for p in range(4)])]))
+case(0, case_file(device=EL6900, runs=(0,), inputs=[(0, BOOL)] * 4,
+                  blocks=[block(TWOHAND, parameters=twohand(), links=[ext(p) for p in range(4)])]))
 # 5: group and the zero byte
 for groups in (1, 2, 8):
     case(0, one(block(ADD, group=groups - 1), runs=[1] * groups))
@@ -246,7 +250,8 @@ for active in (0b10101, 0b11111, 0b11110000, 255):
     case(5, hands(active, links={p: ext(p) for p in range(4) if active >> p & 1}))
 for active, opened in ((0b1111, 0b1111), (0b0101, 0b0101), (0b1010, 0b0010), (0b1110, 0b1110), (0b1101, 0b1000)):
     case(0, hands(active, opened=opened))
-for active, opened in ((0b0101, 0b0010), (0b0101, 0b1000), (0b1110, 0b0001), (0b1011, 0b0100), (0b1111, 0b10000), (0b1111, 0b10001111)):
+for active, opened in ((0b0101, 0b0010), (0b0101, 0b1000), (0b1110, 0b0001), (0b1011, 0b0100), (0b1111, 0b10000),
+                       (0b1111, 0b10001111)):
     case(5, hands(active, opened=opened))
 # 5: TWOHAND's times
 for d in (1, 255, 256, 59999, 60000):
@@ -287,7 +292,8 @@ def orders(*numbers):
 
 for numbers in ((0,), (1, 0), (2, 0, 1), tuple(range(63, -1, -1)), tuple(b * 37 % 64 for b in range(64))):
     case(0, orders(*numbers))
-for numbers in ((1,), (255,), (0, 0), (1, 1), (0, 2), (0, 1, 1), (2, 1, 2), tuple(range(63)) + (64,), tuple(range(63)) + (0,), tuple(range(63)) + (62,), (63,) * 64):
+for numbers in ((1,), (255,), (0, 0), (1, 1), (0, 2), (0, 1, 1), (2, 1, 2), (*range(63), 64), (*range(63), 0),
+                (*range(63), 62), (63,) * 64):
     case(6, orders(*numbers))
 
 # ---- 7: unknown kind, and a nonzero byte where none is allowed
@@ -305,9 +311,9 @@ case(0, one(block(ADD, links=[out(0, 1)])))
 case(7, one(block(ADD, links=[out(1, 1)])))
 case(7, one(block(ADD, links=[out(255, 1)])))
 case(7, one(block(ADD, links=[out(0, 2)])))
-case(0, channels([0], [], more=[block(TWOHAND, order=1, parameters=twohand(0b0101), links={0: out(0, 0), 2: out(1, 1)})]))
-case(7, channels([0], [], more=[block(TWOHAND, order=1, parameters=twohand(0b0101), links={0: out(0, 0), 2: out(1, 2)})]))
-case(7, channels([0], [], more=[block(TWOHAND, order=1, parameters=twohand(0b0101), links={0: out(0, 8), 2: out(1, 1)})]))
+for channel, port, number in ((0, 1, 0), (0, 2, 7), (8, 1, 7)):
+    links = {0: out(0, channel), 2: out(1, port)}
+    case(number, channels([0], [], more=[block(TWOHAND, order=1, parameters=twohand(0b0101), links=links)]))
 # 7: past the last input port there is none, not even a good one
 for p in range(2, 8):
     case(7, adder(blocks=[block(ADD, links={0: ext(0), p: ext(1)})]))
@@ -332,11 +338,11 @@ case(7, case_file(blocks=[block(ADD), block(DECOUPLE, order=1, links=[out(0, 1)]
 case(0, case_file(blocks=[block(ADD), block(DECOUPLE, order=1, links=[out(0, 0)])], outputs=[(0, 1, 0)]))
 case(7, channels([0], [0], more=[block(ADD, order=1, links=[out(0, 0)])]))
 # 7: an external input of another group, for every kind; a block of another group is fine
-for kind, parameters, given, ports in ((DECOUPLE, b'', BOOL, 1), (TWOHAND, twohand(0b0101), BOOL, 3), (ADD, b'', INT16, 2)):
-    for group in (0, 1):
-        links = {p: ext(0) for p in (range(2) if kind == ADD else (0, 2) if kind == TWOHAND else (0,))}
-        record = block(kind, group=group, parameters=parameters, links=links)
-        case(0 if group == 0 else 7, case_file(runs=(1, 1), inputs=[(0, given)], blocks=[record], outputs=[(group, 0, 0)]))
+for kind, parameters, given, ports in ((DECOUPLE, b'', BOOL, [0]), (TWOHAND, twohand(0b0101), BOOL, [0, 2]),
+                                       (ADD, b'', INT16, [0, 1])):
+    for group, number in ((0, 0), (1, 7)):
+        record = block(kind, group=group, parameters=parameters, links={p: ext(0) for p in ports})
+        case(number, case_file(runs=(1, 1), inputs=[(0, given)], blocks=[record], outputs=[(group, 0, 0)]))
 case(0, case_file(runs=(1, 1), blocks=[block(ADD), block(ADD, order=1, group=1, links=[out(0, 1)])]))
 # 7: a TWOHAND input linked but not active, and the reverse
 for active in range(16):
@@ -345,7 +351,8 @@ for active in range(16):
             links = {q: ext(q) for q in range(4) if (active ^ 1 << p) >> q & 1}
             case(7, hands(active, links=links))
 # 7: the last link of the last block
-case(7, case_file(blocks=[block(DECOUPLE, order=b) for b in range(63)] + [block(DECOUPLE, order=63, links={7: ext(0)})]))
+first = [block(DECOUPLE, order=b) for b in range(63)]
+case(7, case_file(blocks=first + [block(DECOUPLE, order=63, links={7: ext(0)})]))
 
 # ---- 8: O: length, unknown group, block or port, block of another group
 for n in (0, 1, 63, 64):
@@ -387,10 +394,10 @@ pair = [block(DECOUPLE, links=[ext(0)]), block(DECOUPLE, order=1, group=1, links
 case(0, case_file(runs=(1, 1), inputs=[(0, BOOL)], blocks=pair, outputs=[(1, 1, 0)]))
 case(8, case_file(runs=(1, 1), inputs=[(0, BOOL)], blocks=pair))
 case(8, case_file(runs=(1, 1), inputs=[(0, BOOL)], blocks=[pair[0], block(DECOUPLE, order=1)], outputs=[(0, 1, 0)]))
-last = [block(DECOUPLE, order=b) for b in range(63)]
-case(0, case_file(inputs=[(0, BOOL)], blocks=last + [block(DECOUPLE, order=63, links={7: ext(0)})], outputs=[(0, 63, 7)]))
-case(8, case_file(inputs=[(0, BOOL)], blocks=last + [block(DECOUPLE, order=63, links={7: ext(0)})]))
-case(8, case_file(inputs=[(0, BOOL)], blocks=last + [block(DECOUPLE, order=63)], outputs=[(0, 63, 7)]))
+linked = first + [block(DECOUPLE, order=63, links={7: ext(0)})]
+case(0, case_file(inputs=[(0, BOOL)], blocks=linked, outputs=[(0, 63, 7)]))
+case(8, case_file(inputs=[(0, BOOL)], blocks=linked))
+case(8, case_file(inputs=[(0, BOOL)], blocks=first + [block(DECOUPLE, order=63)], outputs=[(0, 63, 7)]))
 
 # ---- 9: T is not a whole number of records
 for groups, inputs in ((1, 0), (1, 2), (8, 128)):
@@ -424,13 +431,7 @@ for low in range(3, 10):
         case(low, case_file(**words))
         case(2, case_file(**words, start_O=2))
 
-# ---- damaged copies of accepted files; the numbers are the second implementation's
-DAMAGED = (
-    '4704007855457776705472774485875448707725750577257775207705777870700850270525720787765252772075575526'
-    '7775070705057777577042752762570252374708407575455755452256257277005577555067470705074057045720522507'
-    '5570707075752455675777775570777207752527002705047020757704577544074505055472856350772275755427205472'
-    '7782077577577654827207552577574705520675275256340757575477730505567202755703457575288075253708247878'
-)
+# ---- damaged copies of accepted files
 
 
 class Chance:
@@ -451,36 +452,27 @@ for _ in range(400):
     data = bytearray(SMALL[chance.below(len(SMALL))])
     for _ in range(1 + chance.below(2)):
         at = chance.below(len(data)) if chance.below(4) == 0 else 40 + chance.below(len(data) - 40)
-        data[at] = (0, 1, 2, 3, 4, 5, 6, 7, 8, data[at] ^ 1, (data[at] + 1) % 256, (data[at] - 1) % 256, chance.below(256))[chance.below(13)]
+        near = data[at] ^ 1, (data[at] + 1) % 256, (data[at] - 1) % 256, chance.below(256)
+        data[at] = (*range(9), *near)[chance.below(13)]
     damaged.append(bytes(data))
 
 
-def answers(batch, files):
-    requests = b''.join(b'C' + struct.pack('<I', len(f)) + f for f in files)
-    return list(subprocess.run([batch], input=requests, stdout=subprocess.PIPE, check=True).stdout)
-
-
 def main():
-    expected = [n for n, _ in CASES] + [int(c) for c in DAMAGED]
+    batch, requests, answers = sys.argv[1:]
     files = [f for _, f in CASES] + damaged
-    if len(sys.argv) > 1:
-        got = answers(sys.argv[1], files)
-        wrong = [(i, e, g) for i, (e, g) in enumerate(zip(expected, got)) if e != g]
-        for i, e, g in wrong:
-            print(f'case {i}: written down {e}, the second implementation says {g}')
-        if wrong or len(got) != len(expected):
-            print('DAMAGED =', repr(''.join(map(str, got[len(CASES):]))))
-            sys.exit(1)
-        print(f'{len(CASES)} cases and {len(damaged)} damaged files: both agree')
-    assert len(expected) == len(files)
-    stdin = b''
-    for f in files:
-        front = f.rstrip(b'\0')
-        stdin += struct.pack('<II', len(f), len(front)) + front
-    with open(os.path.join(PROGRAM, 'stdin'), 'wb') as to:
-        to.write(stdin)
-    with open(os.path.join(PROGRAM, 'stdout'), 'w') as to:
-        to.write(''.join(f'{n}\n' for n in expected))
+    asked = b''.join(b'C' + struct.pack('<I', len(f)) + f for f in files)
+    given = subprocess.run([batch], input=asked, stdout=subprocess.PIPE, check=True).stdout
+    if len(given) != len(files):
+        sys.exit(f'{len(files)} files, and the second implementation gives {len(given)} answers')
+    wrong = [f'file {i}: written down {number}, the second implementation answers {given[i]}'
+             for i, (number, _) in enumerate(CASES) if number != given[i]]
+    wrong += [f'no file is answered {n}' for n in range(10) if n not in given[:len(CASES)]]
+    wrong += [f'no damaged file is answered {n}' for n in (0, 2, 3, 4, 5, 6, 7, 8) if n not in given[len(CASES):]]
+    if wrong:
+        sys.exit('\n'.join(wrong))
+    pathlib.Path(requests).write_bytes(asked)
+    pathlib.Path(answers).write_bytes(given)
+    print(f'files: {len(CASES)} numbers that are written down, {len(damaged)} damaged files')
 
 
 main()
