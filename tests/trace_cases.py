@@ -1,6 +1,6 @@
 #!/usr/bin/env python3
-"""Writes the input and the expected output of the gate's program `traces` from the cases of tests/cases: each case file after its length, and the lines
-that the second implementation printed for it (the .expected file beside it)."""
+"""Writes the input and the expected output of the gate's program `traces` from the cases of tests/cases: each case file
+after its length, and the lines that the second implementation printed for it (the .expected file beside it)."""
 import pathlib
 import struct
 
