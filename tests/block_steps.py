@@ -23,7 +23,6 @@ DECOUPLE, TWOHAND, ADD, SUB, MUL, DIV = range(1, 7)
 INT16, UINT16, INT32, UINT32, BOOL = range(5)
 LEAST = [-2**15, 0, -2**31, 0]
 GREATEST = [2**15 - 1, 2**16 - 1, 2**31 - 1, 2**32 - 1]
-PORTS_IN = {DECOUPLE: 8, TWOHAND: 4, ADD: 2, SUB: 2, MUL: 2, DIV: 2}
 PORTS_OUT = {DECOUPLE: 8, TWOHAND: 2, ADD: 2, SUB: 2, MUL: 2, DIV: 2}
 RUN, ACK, COM, FAULT = 1, 2, 4, 8
 RUN_ACK = RUN | ACK
@@ -322,8 +321,8 @@ def random_hands(rng, block, n):
             bits = rng.choice([0, 3, 12, 15, 15])
         elif move < 0.7:
             bits ^= 1 << rng.randrange(4)
-        words = raw(block, bits & active | rng.randrange(16) & ~active & 15)
-        cycles.append((random_group(rng), rng.choice([1, 2, 10, 19, 20, 50, 99, 100, 300, 1000]), words))
+        elapsed = rng.choice([1, 2, 10, 19, 20, 50, 99, 100, 300, 1000])
+        cycles.append((random_group(rng), elapsed, raw(block, bits & active)))
     return cycles
 
 
