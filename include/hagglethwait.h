@@ -1,19 +1,21 @@
 /* Hagglethwait, a review evaluator for recorded safety projects: its calls for C and for every language that calls C.
  *
- * The library is target/staticlib/libhagglethwait.a (`rt staticlib hagglethwait`), for x86-64 Linux. It keeps nothing between calls, allocates nothing and
- * calls nothing but memcpy and memset, and every call returns. Calls that write to different buffers may run at the same time.
+ * The library is target/staticlib/libhagglethwait.a (`rt staticlib hagglethwait`), for x86-64 Linux. It keeps nothing
+ * between calls, allocates nothing and calls nothing but memcpy and memset, and every call returns. Calls that write to
+ * different buffers may run at the same time.
  *
- * What is promised below is proved, for every content and every length of every buffer (crates/hagglethwait/src/lib.rt has the promises as equations). It rests on
- * what a caller in C has to see to:
+ * What is promised below is proved, for every content and every length of every buffer (crates/hagglethwait/src/lib.rt
+ * has the promises as equations, crates/hagglethwait/specs/Calls.antt the limits by name). It rests on what a caller in
+ * C has to see to:
  *   - a pointer is not null, also where its length is 0, and points to as many bytes as its length says;
  *   - a buffer that a call writes (not `const`) overlaps no other argument of that call;
  *   - a length is at most PTRDIFF_MAX.
  *
  * The numbers of refusals, the lowest that applies:
- *    1 file under 40 or over 65,536 bytes      5 B: blocks                     9 T: not a whole number of records
- *    2 table of contents                       6 execution numbers            10 state, outputs or findings not of the exact size
- *    3 G: device and groups                    7 links                        11 state not well formed
- *    4 I: external inputs                      8 O: external outputs          12 cycle record
+ *    1 file under 40 or over 65,536 bytes   5 B: blocks              9 T: not a whole number of records
+ *    2 table of contents                    6 execution numbers     10 state, outputs or findings not of the exact size
+ *    3 G: device and groups                 7 links                 11 state not well formed
+ *    4 I: external inputs                   8 O: external outputs   12 cycle record
  */
 #ifndef HAGGLETHWAIT_H
 #define HAGGLETHWAIT_H
@@ -28,22 +30,27 @@ extern "C" {
 /* Checks a case file. Answers 0 if it is accepted, or the number, 1 to 9, with which it is turned down. */
 uint8_t hagglethwait_check(const uint8_t *file, size_t file_size);
 
-/* The sizes in bytes of the three buffers of an accepted file's cycles: its state, its outputs and its findings. Answers 0 and stores the three, or answers the
- * number, 1 to 9, with which the file is turned down, and stores nothing. They are at most 1,032, 256 and 1,024. */
-uint8_t hagglethwait_sizes(const uint8_t *file, size_t file_size, uint32_t *state_size, uint32_t *outputs_size, uint32_t *findings_size);
+/* The sizes in bytes of the three buffers of an accepted file's cycles: its state (1 for each group and 16 for each
+ * block), its outputs (4 for each external output) and its findings (16 for each block). Answers 0 and stores the
+ * three, or answers the number, 1 to 9, with which the file is turned down, and stores nothing. An accepted file has at
+ * most 8 groups, 64 blocks and 64 external outputs, so the sizes are at most 1,032, 256 and 1,024. */
+uint8_t hagglethwait_sizes(const uint8_t *file, size_t file_size, uint32_t *state_size, uint32_t *outputs_size,
+                           uint32_t *findings_size);
 
-/* Writes the fresh state of an accepted file into `state`, which has the exact size. Answers 0, or the number, 1 to 10, with which the call is turned down, and
- * writes nothing. The fresh state is well formed: a cycle takes it. */
+/* Writes the fresh state of an accepted file into `state`, which has the exact size. Answers 0, or the number, 1 to 10,
+ * with which the call is turned down, and writes nothing. The fresh state is well formed: a cycle takes it. */
 uint8_t hagglethwait_fresh(const uint8_t *file, size_t file_size, uint8_t *state, size_t state_size);
 
 /* Runs one cycle of the file's project from `state`, with one cycle record, which need not stand in the file.
  *
- * Accepted, it answers the count of findings, 0 to 64, and leaves in `state` the state after the cycle, which the next cycle takes, in `outputs` 4 bytes for each
- * external output, and in `findings` 16 bytes for each finding, in order of block number, and zeros behind them. Turned down, it answers minus the number, -1 to -12,
- * and changes no byte of the three. All numbers in buffers are little endian. A finding is: block (1 byte), group (1), text ID (2), diagnosis (2), zero (2), first
- * and second input (4 each). */
-int32_t hagglethwait_cycle(const uint8_t *file, size_t file_size, const uint8_t *record, size_t record_size, uint8_t *state, size_t state_size, uint8_t *outputs,
-                           size_t outputs_size, uint8_t *findings, size_t findings_size);
+ * Accepted, it answers the count of findings, 0 to 64, and leaves in `state` the state after the cycle, which the next
+ * cycle takes, in `outputs` 4 bytes for each external output, and in `findings` 16 bytes for each finding, in order of
+ * block number, and zeros behind them. Turned down, it answers minus the number, -1 to -12, and changes no byte of the
+ * three. All numbers in buffers are little endian. A finding is: block (1 byte), group (1), text ID (2), diagnosis (2),
+ * zero (2), first and second input (4 each). */
+int32_t hagglethwait_cycle(const uint8_t *file, size_t file_size, const uint8_t *record, size_t record_size,
+                           uint8_t *state, size_t state_size, uint8_t *outputs, size_t outputs_size, uint8_t *findings,
+                           size_t findings_size);
 
 #ifdef __cplusplus
 }

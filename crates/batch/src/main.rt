@@ -1,10 +1,11 @@
-// The library over a pipe, for tools in any language and for tests. Requests stand on standard input, and each is answered at once on standard output, until the
-// input ends. All numbers are little endian; a buffer is its length (32-bit) and its bytes.
-//     C (0x43), a file: one byte, 0 for accepted or the refusal's number
-//     Y (0x59), a file, a record, a state, outputs, findings: one byte, 0 or the refusal's number; the count of findings (32-bit, 0 if refused); state, outputs
-//     and findings as they are after the call, in the lengths that they came with
-// A buffer that there is no room for, another letter, or an end in the middle of a request ends the program with a line on standard error; answers already
-// given stand.
+// The library over a pipe, for tools in any language and for tests. Requests stand on standard input, and each is
+// answered at once on standard output, until the input ends. All numbers are little endian; a buffer is its length
+// (32-bit) and its bytes.
+//     C (0x43), a file: one byte, 0 for accepted or the refusal's number Y (0x59), a file, a record, a state, outputs,
+//     findings: one byte, 0 or the refusal's number; the count of findings (32-bit, 0 if refused); state, outputs and
+//     findings as they are after the call, in the lengths that they came with
+// A buffer that there is no room for, another letter, or an end in the middle of a request ends the program with a
+// line on standard error; answers already given stand.
 ghost use Rattle.io.specs.Counts.{Counts};
 use evaluator::Answer;
 use libc::STDERR_FILENO;
@@ -52,7 +53,8 @@ fn complain(request: u64, fault: u8) -> bool {
     false
 }
 
-// The length of the next buffer and its bytes, at the start of `room`. Nothing is read where something was wrong before.
+// The length of the next buffer and its bytes, at the start of `room`. Nothing is read where something was wrong
+// before.
 fn receive(room: &mut [u8], before: u8) -> Received
     ensures { λ r. ⌜ Counts (r .size) (now (room .exit)) ⌝ }
 {

@@ -1,10 +1,8 @@
-pub mod Parts
-pub mod Placed
+pub mod Families
+pub mod Stretches
 pub mod Marking
 pub mod Numbers
 pub mod Facts
-pub mod Onto
-pub mod Listing
+pub mod Refusals
 pub mod Accepted
-pub mod Bytes
-pub mod Bodies
+pub mod Listing

@@ -1,125 +1,161 @@
--- What a cycle call answers, by the first test that fails. Assumes nothing.
-use mathlib.Core.Path.{_≡_, refl}
-use mathlib.Core.Bool.{Bool, true, false, _&&_}
+-- What a cycle call answers, by the first row of its table that is not kept. Assumes nothing.
+use mathlib.Core.Path.{_≡_, refl, sym, ap, _∙_}
+use mathlib.Core.Bool.{true, false, _&&_}
 use mathlib.Core.Logic.{_≢_}
 use mathlib.Core.List.{List}
-use Prim.Native.Nat.{ℕ, zero, suc, _<_}
-use native.Mathlib.Omega.{arith}
+use Prim.Native.Nat.{ℕ, zero, suc}
+use native.Mathlib.Decide.{ℕ-discrete}
 use lib.Dec.{eqb, leb}
 use lib.ListN.{length}
 use borrow.Author.Tests.{eqb-true}
 use Rattle.wire.specs.Places.{all}
+use Rattle.wire.specs.Tables.{first, AllKept}
 use Rattle.wire.proofs.Places.{both-left, both-right}
-use Rattle.casefile.specs.declared.Layout.{Layout}
-use Rattle.casefile.specs.Layout.{bodyG, bodyB, bodyO, bodyOf, groupCount, inputCount, recordSize, layoutOf}
-use Rattle.casefile.specs.Refusal.{verdict, numberOf}
-use Rattle.casefile.proofs.Accepted.{number-zero}
+use Rattle.wire.proofs.Tables.{numbered, numbered-append, first-zero, first-kept, first-broken}
+use Rattle.project.specs.declared.Counts.{Counts}
+use Rattle.project.specs.Project.{Project, groupCount, inputCount, recordSize}
+use Rattle.casefile.specs.Bodies.{projectOf}
+use Rattle.casefile.specs.Refusal.{fileTable}
+use Rattle.casefile.proofs.Refusals.{file-numbered, number-zero}
+use Rattle.casefile.proofs.Accepted.{accepted}
 use Rattle.evaluator.specs.declared.Answer.the-variants.{Findings, Refused}
+use Rattle.evaluator.specs.State.{stateLength, outputsLength, findingsLength, stateFormed}
 use Rattle.evaluator.specs.Groups.{elapsed}
 use Rattle.evaluator.specs.Cycle.{newState, newOutputs, newFindings, findingCount}
-use Rattle.evaluator.specs.Answer.{Lent, sizesOk, sizesFit, stateOk, controlOk, inputOk, recordOk, unless, orLater, refusalAfter9, refusal, cycleOf, stateLength, outputsLength, findingsLength}
-use Rattle.evaluator.specs.Fits.{Admitted}
+use Rattle.evaluator.specs.Answer.{controlOk, inputFits, recordOk, Lent, lends, sizesOk, callRows, callTable}
+use Rattle.evaluator.specs.Answer.{refusal, leaves, cycleOf}
+use Rattle.evaluator.specs.Asks.{Admitted, countsIn}
+use Rattle.evaluator.proofs.Checking.{Taken, taken, groups-counted, blocks-counted, outputs-counted}
 
--- a test that did not turn the call down
-pub unless-held : (b : Bool) (n later : ℕ) → 0 < n → unless b n later ≡ 0 → b ≡ true
-unless-held true n later l e = refl
-unless-held false n later l e = absurd (omega arith)
+-- no row of a call's table has the number 0
+pub table-numbered : (F R : List ℕ) (L : Lent) → numbered (callTable F R L) ≡ true
+unfolding callTable numbered
+table-numbered F R L = numbered-append (fileTable F) (callRows (projectOf F) R L) (file-numbered F) refl
 
-unless-rest : (b : Bool) (n later : ℕ) → 0 < n → unless b n later ≡ 0 → later ≡ 0
-unless-rest true n later l e = e
-unless-rest false n later l e = absurd (omega arith)
-
-pub later-number : (n later : ℕ) → orLater n later ≡ 0 → n ≡ 0
-later-number zero later e = refl
-later-number (suc n) later e = absurd (omega arith)
-
-pub later-rest : (n later : ℕ) → orLater n later ≡ 0 → later ≡ 0
-later-rest zero later e = e
-later-rest (suc n) later e = absurd (omega arith)
-
--- what holds of a call that is not turned down
-pub record Passed (F R : List ℕ) (L : Lent) : Type 0 where
-  pub number : numberOf (verdict F) ≡ 0
-  pub sizes : sizesOk F L ≡ true
-  pub state : stateOk F (L .state) ≡ true
-  pub given : recordOk F R ≡ true
-
-pub passed : (F R : List ℕ) (L : Lent) → refusal F R L ≡ 0 → Passed F R L
-unfolding refusal refusalAfter9
-passed F R L e =
-    let r10 = later-rest (numberOf (verdict F)) (refusalAfter9 F R L) e in
-    let r11 = unless-rest (sizesOk F L) 10 (unless (stateOk F (L .state)) 11 (unless (recordOk F R) 12 0)) (omega arith) r10 in
-    let r12 = unless-rest (stateOk F (L .state)) 11 (unless (recordOk F R) 12 0) (omega arith) r11 in
-    record {
-      number = later-number (numberOf (verdict F)) (refusalAfter9 F R L) e;
-      sizes = unless-held (sizesOk F L) 10 (unless (stateOk F (L .state)) 11 (unless (recordOk F R) 12 0)) (omega arith) r10;
-      state = unless-held (stateOk F (L .state)) 11 (unless (recordOk F R) 12 0) (omega arith) r11;
-      given = unless-held (recordOk F R) 12 0 (omega arith) r12;
-    }
-
--- a record that is one of the file's has its size
-pub sized : (F R : List ℕ) → recordOk F R ≡ true → length R ≡ recordSize F
+-- a record that is one of the project's has its size
+pub sized : (G I R : List ℕ) → recordOk G I R ≡ true → length R ≡ recordSize G I
 unfolding recordOk
-sized F R e =
-    let a = eqb (length R) (recordSize F) in
+sized G I R e =
+    let a = eqb (length R) (recordSize G I) in
     let b = leb 1 (elapsed R) in
     let c = leb (elapsed R) 1000 in
-    let d = all (controlOk F R) (groupCount F) in
-    eqb-true _ _ (both-left a b (both-left (a && b) c (both-left (a && b && c) d (both-left (a && b && c && d) (all (inputOk F R) (inputCount F)) e))))
+    let d = all (controlOk G R) (groupCount G) in
+    let f = all (inputFits (groupCount G) I R) (inputCount I) in
+    eqb-true _ _ (both-left a b (both-left (a && b) c (both-left (a && b && c) d (both-left (a && b && c && d) f e))))
+
+-- ---- the rows of a call, of the project P
+
+module _ (P : Project) (R : List ℕ) (L : Lent) where
+  pub rows-10 : sizesOk P L ≡ false → first (callRows P R L) ≡ 10
+  unfolding first
+  rows-10 a = rw a
+
+  pub rows-11 : sizesOk P L ≡ true → stateFormed (P .groups) (P .blocks) (L .state) ≡ false →
+      first (callRows P R L) ≡ 11
+  unfolding first
+  rows-11 a b = rw (a, b)
+
+  pub rows-12 : sizesOk P L ≡ true → stateFormed (P .groups) (P .blocks) (L .state) ≡ true →
+      recordOk (P .groups) (P .inputs) R ≡ false → first (callRows P R L) ≡ 12
+  unfolding first
+  rows-12 a b c = rw (a, b, c)
+
+  pub rows-none : sizesOk P L ≡ true → stateFormed (P .groups) (P .blocks) (L .state) ≡ true →
+      recordOk (P .groups) (P .inputs) R ≡ true → first (callRows P R L) ≡ 0
+  unfolding first
+  rows-none a b c = rw (a, b, c)
+
+  -- what holds of a call that is not turned down
+  pub record Passed : Type 0 where
+    pub sizes : sizesOk P L ≡ true
+    pub state : stateFormed (P .groups) (P .blocks) (L .state) ≡ true
+    pub given : recordOk (P .groups) (P .inputs) R ≡ true
+
+-- what was tested is what a cycle asks
+pub admitted : (P : Project) (R : List ℕ) (L : Lent) (c : Counts) → c ≡ countsIn P → Taken P → Passed P R L →
+    Admitted c (P .groups) (P .blocks) (P .outputs) R (L .state) (L .outputs) (L .findings)
+unfolding sizesOk recordSize
+admitted P R L c e t p =
+    let s = eqb (length (L .state)) (stateLength (P .groups) (P .blocks)) in
+    let o = eqb (length (L .outputs)) (outputsLength (P .outputs)) in
+    let d = eqb (length (L .findings)) (findingsLength (P .blocks)) in
+    record {
+      inputs = inputCount (P .inputs);
+      sound = t .sound;
+      shown = t .shown;
+      groups = groups-counted e t;
+      blocks = blocks-counted e t;
+      rows = outputs-counted e t;
+      given = sized (P .groups) (P .inputs) R (p .given);
+      state = eqb-true _ _ (both-left s o (both-left (s && o) d (p .sizes)));
+      outputs = eqb-true _ _ (both-right s o (both-left (s && o) d (p .sizes)));
+      findings = eqb-true _ _ (both-right (s && o) d (p .sizes));
+      formed = p .state;
+    }
+
+-- ---- a call
 
 module _ (F R : List ℕ) (L : Lent) where
+  -- a file that is turned down turns the call down
+  pub refused-file : (n : ℕ) → n ≡ first (fileTable F) → n ≢ 0 → n ≡ refusal F R L
+  unfolding refusal callTable
+  refused-file n e k =
+      e ∙ sym (first-broken (fileTable F) (callRows (projectOf F) R L) (λ z. k (e ∙ z)))
+
+  -- of an accepted one, P is the project
+  pub refused-rows : first (fileTable F) ≡ 0 → (P : Project) → P ≡ projectOf F → first (callRows P R L) ≡ refusal F R L
+  unfolding refusal callTable
+  refused-rows z P e =
+      ap (λ (p : Project). first (callRows p R L)) e
+      ∙ sym (first-kept (fileTable F) (callRows (projectOf F) R L) (first-zero (fileTable F) (file-numbered F) .0 z))
+
   -- a call that is turned down with the number n
   pub call-refused : (n : ℕ) → refusal F R L ≡ n → n ≢ 0 → cycleOf F R L ≡ record { answer = Refused n; lent = L }
   unfolding cycleOf
   call-refused zero e k = absurd (k refl)
   call-refused (suc n) e k = rw e
 
-  pub call-done : refusal F R L ≡ 0 →
-      cycleOf F R L ≡ record {
-        answer = Findings (findingCount F R (L .state));
-        lent = record { state = newState F R (L .state); outputs = newOutputs F R (L .state); findings = newFindings F R (L .state) };
-      }
-  unfolding cycleOf
-  call-done e = rw e
+  module _ (e : refusal F R L ≡ 0) where
+    pub call-done : cycleOf F R L ≡ leaves 0 (projectOf F) R L
+    unfolding cycleOf
+    call-done = rw e
 
-  pub number-file : (n : ℕ) → n ≡ numberOf (verdict F) → n ≢ 0 → refusal F R L ≡ n
-  unfolding refusal
-  number-file zero e k = absurd (k refl)
-  number-file (suc n) e k = rw (← e)
+    kept : AllKept (callTable F R L)
+    unfolding refusal
+    kept = first-zero (callTable F R L) (table-numbered F R L) .0 e
 
-  module _ (z : numberOf (verdict F) ≡ 0) where
-    pub number-10 : sizesOk F L ≡ false → refusal F R L ≡ 10
-    unfolding refusal refusalAfter9
-    number-10 a = rw (z, a)
+    -- the file is accepted
+    pub file-zero : first (fileTable F) ≡ 0
+    unfolding refusal callTable
+    file-zero = go (ℕ-discrete (first (fileTable F)) 0)
+      where
+        go : Dec (first (fileTable F) ≡ 0) → first (fileTable F) ≡ 0
+        go (yes z) = z
+        go (no k) = sym (first-broken (fileTable F) (callRows (projectOf F) R L) k) ∙ e
 
-    pub number-11 : sizesOk F L ≡ true → stateOk F (L .state) ≡ false → refusal F R L ≡ 11
-    unfolding refusal refusalAfter9
-    number-11 a b = rw (z, a, b)
+    pub call-taken : Taken (projectOf F)
+    call-taken = taken F (accepted F (number-zero F file-zero))
 
-    pub number-12 : sizesOk F L ≡ true → stateOk F (L .state) ≡ true → recordOk F R ≡ false → refusal F R L ≡ 12
-    unfolding refusal refusalAfter9
-    number-12 a b c = rw (z, a, b, c)
+    -- and every test was passed
+    pub call-passed : Passed (projectOf F) R L
+    unfolding numbered
+    call-passed = go (rows (refused-rows file-zero (projectOf F) refl ∙ e))
+      where
+        P : Project
+        P = projectOf F
 
-    pub number-none : sizesOk F L ≡ true → stateOk F (L .state) ≡ true → recordOk F R ≡ true → refusal F R L ≡ 0
-    unfolding refusal refusalAfter9
-    number-none a b c = rw (z, a, b, c)
+        rows : first (callRows P R L) ≡ 0 → AllKept (callRows P R L)
+        rows z = first-zero (callRows P R L) refl .0 z
 
-    -- what was tested is what a cycle asks
-    pub admitted : (l : Layout) (G B W : List ℕ) → l ≡ layoutOf F → G ≡ bodyOf F bodyG → B ≡ bodyOf F bodyB → W ≡ bodyOf F bodyO → sizesOk F L ≡ true → stateOk F (L .state) ≡ true →
-        Admitted F l G B W (L .state) (L .outputs) (L .findings)
-    unfolding sizesOk sizesFit
-    admitted l G B W e p q r a b =
-        let s = eqb (length (L .state)) (stateLength F) in
-        let o = eqb (length (L .outputs)) (outputsLength F) in
-        let d = eqb (length (L .findings)) (findingsLength F) in
-        record {
-          accepted = number-zero (verdict F) z;
-          layout = e;
-          groups = p;
-          blocks = q;
-          rows = r;
-          state = eqb-true _ _ (both-left s o (both-left (s && o) d a));
-          outputs = eqb-true _ _ (both-right s o (both-left (s && o) d a));
-          findings = eqb-true _ _ (both-right (s && o) d a);
-          formed = b;
-        }
+        go : AllKept (callRows P R L) → Passed P R L
+        go h = record { sizes = h 0; state = h 1; given = h 2 }
+
+  -- a call that ran the cycle over the bodies of P
+  pub call-made : (P : Project) (S O D : List ℕ) (n : ℕ) → refusal F R L ≡ 0 → P ≡ projectOf F →
+      n ≡ findingCount (P .groups) (P .blocks) R (L .state) → S ≡ newState (P .groups) (P .blocks) R (L .state) →
+      O ≡ newOutputs (P .groups) (P .blocks) (P .outputs) R (L .state) →
+      D ≡ newFindings (P .groups) (P .blocks) R (L .state) →
+      cycleOf F R L ≡ record { answer = Findings n; lent = lends S O D }
+  call-made P S O D n e p c s o d =
+      call-done e ∙ sym (ap (λ (q : Project). leaves 0 q R L) p)
+      ∙ sym (λ i. record { answer = Findings (c i); lent = lends (s i) (o i) (d i) })

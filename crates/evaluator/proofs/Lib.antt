@@ -9,11 +9,8 @@ pub mod Deciding
 pub mod Ranking
 pub mod Cycles
 pub mod Checked
-pub mod Calls
 pub mod Words
 pub mod Checking
+pub mod Calls
 pub mod FreshFormed
-pub mod Demand1
-pub mod Demand2
-pub mod Demand3
-pub mod Listing
+pub mod Stepping

@@ -1,115 +1,171 @@
--- One turn, from what the code read and made to what the definitions say of it. Assumes nothing.
+-- One turn, from what the code read and left to what the definitions say of it. Assumes nothing.
 use mathlib.Core.Path.{_≡_, refl, sym, ap, ap₂, _∙_}
-use mathlib.Core.Bool.{Bool, true, false, cond, not, _&&_}
+use mathlib.Core.Bool.{Bool, true, false}
 use mathlib.Core.List.{List}
-use Prim.Native.Nat.{ℕ, _+_, _*_, _%_, _<_}
-use native.Mathlib.Nat.{mod-eq-of-lt}
-use native.Mathlib.Omega.{arith}
-use lib.ListN.{take, drop}
-use lib.Seq.{sets}
-use Rattle.wire.specs.Words.{byteAt, le16}
-use Rattle.wire.proofs.Endian.{bytes-word2}
-use Rattle.casefile.specs.Layout.{groupCount, kindIn, groupIn, kindOf, parametersIn, parametersOf, blockRecord}
-use Rattle.block.specs.State.{STOP, RESET, plain, inError, decode, encode}
-use Rattle.block.specs.Inputs.{firstRead, secondRead}
-use lib.Dec.{eqb}
-use Rattle.block.specs.Step.{stepOf, readsInputs}
-use Rattle.block.proofs.Steps.{blind, reads-not}
-use Rattle.block.specs.Finding.{findingBytes}
-use Rattle.block.specs.declared.BlockState.{BlockState}
-use Rattle.evaluator.specs.Net.{words}
-use Rattle.evaluator.specs.Groups.{cell, codeOf}
-use Rattle.evaluator.specs.Cycle.{wires, blockStep, entersCode, entersFrom, findingFor}
-use Rattle.evaluator.specs.Fits.{Turning, wordsOf, turned, entering, noted}
-use Rattle.evaluator.proofs.Reading.{cell-is}
+use Prim.Native.Nat.{ℕ, _+_, _-_, _*_, _≤_}
+use native.Mathlib.Nat.{add-sub-cancel-left}
+use borrow.Rule.Slice.PartMut.{putMid}
+use lib.ListN.{length, take, drop}
+use lib.Seq.{sets, length-sets}
+use Rattle.wire.specs.Records.{slot}
+use Rattle.wire.proofs.Records.{slot-put-same}
+use Rattle.wire.proofs.Stores.{stored}
+use Rattle.kind.specs.Kinds.{familyOf}
+use Rattle.kind.specs.Devices.{isErrAck}
+use Rattle.kind.specs.declared.Family.{Family}
+use Rattle.kind.specs.declared.Family.the-variants.{Decouple, Twohand, Arithmetic, Unknown}
+use Rattle.project.specs.Project.{kindIn, groupIn, parametersIn, groupOf}
+use Rattle.block.specs.State.{stateSize, freshBytes, entersFrom}
+use Rattle.block.specs.Inputs.{bitsFrom, effectiveMask, firstReadOf, firstRead, secondReadOf, secondRead}
+use Rattle.block.specs.Step.{restBytes, decoupleBytes, twohandBytes, arithmeticBytes, readBytes, asksInputs}
+use Rattle.block.specs.Finding.{findingSize, findingOf}
+use Rattle.block.proofs.Steps.{reads, rests}
+use Rattle.block.proofs.Enters.{rest-enters}
+use Rattle.evaluator.specs.State.{stateHead, cell}
+use Rattle.evaluator.specs.Groups.{elapsed, controlByte}
+use Rattle.evaluator.specs.Cycle.{wires, turnedFrom, findingFor}
+use Rattle.evaluator.specs.Asks.{Turning, wordsOf, wordsAt, turned, entering, noted}
+use Rattle.evaluator.proofs.Running.{turned-length}
 
--- what is read of the bytes of a state is what they were made of
-pub code-back : (c : BlockState) → codeOf (encode c) ≡ c .code
-unfolding decode encode
-code-back c = refl
+-- ---- what a turn leaves, where the block's bytes become `new` in place
 
-pub diagnosis-back : (c : BlockState) → c .diagnosis < 65536 → decode (encode c) .diagnosis ≡ c .diagnosis
-unfolding decode encode
-diagnosis-back c l = bytes-word2 (c .diagnosis) l
+-- the part of the state that the block is lent
+abbrev pub lentTo : ℕ → List ℕ → ℕ → List ℕ
+lentTo h S b =
+    let at = stateHead h + stateSize * b in
+    take (at + stateSize - at) (drop at S)
 
--- the two words that block b reads, by its record Q
-module _ (F R S Q : List ℕ) (b : ℕ) (here : Q ≡ blockRecord F b) where
-  pub first-is : (x : ℕ) → x ≡ firstRead (byteAt Q 0) (parametersIn Q) (wordsOf F R S Q) → x ≡ firstRead (kindOf F b) (parametersOf F b) (words (wires F R) (cell F S) b)
-  unfolding wires
-  first-is x e = e ∙ ap (λ (q : List ℕ). firstRead (byteAt q 0) (parametersIn q) (wordsOf F R S q)) here
+pub lent-cell : (h : ℕ) (S : List ℕ) (b : ℕ) → lentTo h S b ≡ cell h S b
+unfolding cell slot
+lent-cell h S b =
+    let at = stateHead h + stateSize * b in
+    ap (λ (k : ℕ). take k (drop at S)) (add-sub-cancel-left at stateSize)
 
-  pub second-is : (y : ℕ) → y ≡ secondRead (byteAt Q 0) (parametersIn Q) (wordsOf F R S Q) → y ≡ secondRead (kindOf F b) (parametersOf F b) (words (wires F R) (cell F S) b)
-  unfolding wires
-  second-is y e = e ∙ ap (λ (q : List ℕ). secondRead (byteAt q 0) (parametersIn q) (wordsOf F R S q)) here
+module _ (h : ℕ) (B R : List ℕ) (ph : ℕ) (S : List ℕ) (b : ℕ) {new : List ℕ} (e : new ≡ turned h B R ph S b)
+    (fits : stateHead h + stateSize * b + stateSize ≤ length S) where
+  long : length (turned h B R ph S b) ≡ stateSize
+  unfolding turned
+  long = turned-length B R ph b _ _
 
--- what the code has: the block's record Q, its kind, parameters, old state and inputs, and the step's result
-pub record Made (F R S Q : List ℕ) (h ph b : ℕ) (ack : Bool) (k ms x y : ℕ) (P T bytes : List ℕ) (old new : BlockState) : Type 0 where
-  pub heads : h ≡ groupCount F
-  pub few : b < 64
-  pub turning : Turning F R Q b ack
-  pub kind : k ≡ kindIn Q
-  pub parameters : P ≡ parametersIn Q
-  pub time : ms ≡ le16 R 0
-  pub part : T ≡ take 16 (drop (h + 16 * b) S)
-  pub loaded : old ≡ decode T
-  pub first : x ≡ firstRead (kindOf F b) (parametersOf F b) (words (wires F R) (cell F S) b)
-  pub second : y ≡ secondRead (kindOf F b) (parametersOf F b) (words (wires F R) (cell F S) b)
-  pub stepped : new ≡ stepOf k P ph ack ms x y old
-  pub packed : bytes ≡ encode new
+  pub left-is : (T : List ℕ) → T ≡ sets (lentTo h S b) 0 new →
+      let at = stateHead h + stateSize * b in putMid at (at + stateSize - at) S T ≡ sets S at (turned h B R ph S b)
+  left-is T t =
+      stored (turned h B R ph S b) S (stateHead h + stateSize * b) stateSize long fits T
+      (t ∙ ap (sets (lentTo h S b) 0) e)
 
-module _ {F R S Q : List ℕ} {h ph b : ℕ} {ack : Bool} {k ms x y : ℕ} {P T bytes : List ℕ} {old new : BlockState}
-    (m : Made F R S Q h ph b ack k ms x y P T bytes old new) where
-  old-is : old ≡ decode (cell F S b)
-  old-is = m .loaded ∙ ap decode (m .part ∙ cell-is F S h (m .heads) b)
+  pub left-long : (T : List ℕ) → T ≡ sets (lentTo h S b) 0 new →
+      let at = stateHead h + stateSize * b in length (putMid at (at + stateSize - at) S T) ≡ length S
+  left-long T t =
+      ap length (left-is T t) ∙ length-sets S (stateHead h + stateSize * b) (turned h B R ph S b)
 
-  pub turned-is : bytes ≡ turned F R ph S b
-  unfolding turned blockStep
-  turned-is =
-      let kk = m .kind ∙ ap kindIn (m .turning .here) in
-      let pp = m .parameters ∙ ap parametersIn (m .turning .here) in
-      m .packed ∙ ap encode (m .stepped ∙ (λ i. stepOf (kk i) (pp i) ph (m .turning .acked i) (m .time i) (m .first i) (m .second i) (old-is i)))
+  pub entering-is : (x : Bool) → x ≡ entersFrom (lentTo h S b) new → x ≡ entering h B R ph S b
+  unfolding entering
+  entering-is x q = q ∙ ap₂ entersFrom (lent-cell h S b) e
 
-  new-is : encode new ≡ turned F R ph S b
-  new-is = sym (m .packed) ∙ turned-is
+  -- and then stands there
+  pub cell-left : (S′ : List ℕ) → S′ ≡ sets S (stateHead h + stateSize * b) (turned h B R ph S b) →
+      cell h S′ b ≡ turned h B R ph S b
+  unfolding cell
+  cell-left S′ q =
+      ap (slot (stateHead h) stateSize b) q
+      ∙ slot-put-same (stateHead h) stateSize b (turned h B R ph S b) S long fits
 
-  pub entering-is : (e : Bool) → e ≡ entersCode (old .code) (new .code) → e ≡ entering F R ph S b
-  unfolding entering entersFrom
-  entering-is e q =
-      q ∙ ap₂ entersCode (λ i. old-is i .code) (sym (code-back new) ∙ ap codeOf new-is)
-
-  pub noted-not : (D : List ℕ) → entering F R ph S b ≡ false → D ≡ noted F R ph S b D
+-- what is noted of a turn
+module _ (h : ℕ) (B R : List ℕ) (ph : ℕ) (S : List ℕ) (b : ℕ) (D : List ℕ) where
+  pub noted-not : entering h B R ph S b ≡ false → D ≡ noted h B R ph S b D
   unfolding noted
-  noted-not D e = rw e
+  noted-not e = rw e
 
-  pub noted-is : (D f : List ℕ) (n g d : ℕ) → entering F R ph S b ≡ true → n ≡ b % 256 → g ≡ groupIn Q → d ≡ new .diagnosis → d < 65536 →
-      f ≡ findingBytes n g k d x y → sets D (16 * b) f ≡ noted F R ph S b D
-  unfolding noted findingFor
-  noted-is D f n g d e en eg ed l ef =
-      rw e
-      (ap (sets D (16 * b))
-      (ef ∙ (λ i. findingBytes ((en ∙ mod-eq-of-lt small) i) ((eg ∙ ap groupIn (m .turning .here)) i) ((m .kind ∙ ap kindIn (m .turning .here)) i) (told i) (m .first i) (m .second i))))
-    where
-      small : b < 256
-      small = omega (arith, m .few)
+  pub noted-is : (f : List ℕ) → entering h B R ph S b ≡ true →
+      f ≡ findingFor B b (wordsAt h B R S b) (turned h B R ph S b) → sets D (findingSize * b) f ≡ noted h B R ph S b D
+  unfolding noted
+  noted-is f e q = rw e (ap (sets D (findingSize * b)) q)
 
-      told : d ≡ decode (turned F R ph S b) .diagnosis
-      told = ed ∙ sym (diagnosis-back new (rw (← ed) l)) ∙ (λ i. decode (new-is i) .diagnosis)
+-- ---- a block that asks for its inputs
 
--- a step that does not read the block's inputs: it is the one of any inputs, and enters nothing
-module _ (k : ℕ) (P : List ℕ) (ph : ℕ) (ack : Bool) (ms : ℕ) (old new : BlockState)
-    (quiet : readsInputs ph (old .code) ack ≡ false) (en : new ≡ stepOf k P ph ack ms 0 0 old) where
-  pub quiet-step : (x y : ℕ) → new ≡ stepOf k P ph ack ms x y old
-  quiet-step x y = en ∙ blind k P ph ack ms 0 0 x y old quiet
+module _ {h : ℕ} {B R S Q : List ℕ} {b ph : ℕ} (t : Turning h B R S Q b ph) where
+  -- its family's step and its finding, on the two words that it reads
+  module _ (x y : ℕ) (ex : x ≡ firstRead (kindIn Q) (parametersIn Q) (wordsOf h B R S Q))
+      (ey : y ≡ secondRead (kindIn Q) (parametersIn Q) (wordsOf h B R S Q)) where
+    turned-read : (f : Family) → familyOf (kindIn Q) ≡ f →
+        readBytes f (kindIn Q) (parametersIn Q) ph (elapsed R) x y (cell h S b) ≡ turned h B R ph S b
+    unfolding turned turnedFrom wires
+    turned-read f ef =
+        (λ i. readBytes (sym ef i) (kindIn Q) (parametersIn Q) ph (elapsed R) (ex i) (ey i) (cell h S b))
+        ∙ ap (λ (q : List ℕ).
+        readBytes (familyOf (kindIn q)) (kindIn q) (parametersIn q) ph (elapsed R)
+        (firstRead (kindIn q) (parametersIn q) (wordsOf h B R S q))
+        (secondRead (kindIn q) (parametersIn q) (wordsOf h B R S q)) (cell h S b)) (t .here)
+        ∙ sym (reads _ _ ph (isErrAck (controlByte R (groupOf B b))) (elapsed R) _ _ (cell h S b) (t .asks))
 
-  pub quiet-enters : false ≡ entersCode (old .code) (new .code)
-  unfolding stepOf
-  quiet-enters = go (eqb ph 0) refl
-    where
-      rest : (t : Bool) (d : ℕ) (u : Bool) → false ≡ eqb (cond t (inError d) (plain (cond u RESET STOP)) .code) 4 && not t
-      rest true d u = refl
-      rest false d true = refl
-      rest false d false = refl
+    pub found-read : (s : List ℕ) → findingOf b (groupIn Q) (kindIn Q) x y s ≡ findingFor B b (wordsAt h B R S b) s
+    unfolding findingFor wires
+    found-read s =
+        (λ i. findingOf b (groupIn Q) (kindIn Q) (ex i) (ey i) s)
+        ∙ ap (λ (q : List ℕ).
+        findingOf b (groupIn q) (kindIn q) (firstRead (kindIn q) (parametersIn q) (wordsOf h B R S q))
+        (secondRead (kindIn q) (parametersIn q) (wordsOf h B R S q)) s) (t .here)
 
-      go : (t : Bool) → eqb ph 0 ≡ t → false ≡ entersCode (old .code) (new .code)
-      go true e = rw (en) (rw e refl)
-      go false e = rw (en ∙ reads-not k P ph ack ms 0 0 old e quiet) (rest (eqb (old .code) 4) (old .diagnosis) (eqb (old .code) 5 && ack))
+  -- DECOUPLE
+  pub decouple-turned : familyOf (kindIn Q) ≡ Decouple → (x : ℕ) → x ≡ bitsFrom (wordsOf h B R S Q) 8 0 →
+      decoupleBytes ph x ≡ turned h B R ph S b
+  unfolding readBytes firstRead firstReadOf secondRead secondReadOf
+  decouple-turned f x e = turned-read x 0 (rw f e) (rw f refl) Decouple f
+
+  -- TWOHAND
+  module _ (f : familyOf (kindIn Q) ≡ Twohand) (x : ℕ)
+      (e : x ≡ effectiveMask (parametersIn Q) (bitsFrom (wordsOf h B R S Q) 4 0)) where
+    pub hands-first : x ≡ firstRead (kindIn Q) (parametersIn Q) (wordsOf h B R S Q)
+    unfolding firstRead firstReadOf
+    hands-first = rw f e
+
+    pub hands-second : 0 ≡ secondRead (kindIn Q) (parametersIn Q) (wordsOf h B R S Q)
+    unfolding secondRead secondReadOf
+    hands-second = rw f refl
+
+    pub twohand-turned : (P : List ℕ) (ms : ℕ) → P ≡ parametersIn Q → ms ≡ elapsed R →
+        twohandBytes P ph ms x (lentTo h S b) ≡ turned h B R ph S b
+    unfolding readBytes
+    twohand-turned P ms p m =
+        (λ i. twohandBytes (p i) ph (m i) x (lent-cell h S b i)) ∙ turned-read x 0 hands-first hands-second Twohand f
+
+  -- arithmetic
+  module _ (f : familyOf (kindIn Q) ≡ Arithmetic) (x y : ℕ) (ex : x ≡ wordsOf h B R S Q 0)
+      (ey : y ≡ wordsOf h B R S Q 1) where
+    pub word-first : x ≡ firstRead (kindIn Q) (parametersIn Q) (wordsOf h B R S Q)
+    unfolding firstRead firstReadOf
+    word-first = rw f ex
+
+    pub word-second : y ≡ secondRead (kindIn Q) (parametersIn Q) (wordsOf h B R S Q)
+    unfolding secondRead secondReadOf
+    word-second = rw f ey
+
+    pub arithmetic-turned : (k : ℕ) (P : List ℕ) → k ≡ kindIn Q → P ≡ parametersIn Q →
+        arithmeticBytes k P ph x y (lentTo h S b) ≡ turned h B R ph S b
+    unfolding readBytes
+    arithmetic-turned k P q p =
+        (λ i. arithmeticBytes (q i) (p i) ph x y (lent-cell h S b i))
+        ∙ turned-read x y word-first word-second Arithmetic f
+
+  -- a block of no kind
+  pub unknown-turned : familyOf (kindIn Q) ≡ Unknown → freshBytes ≡ turned h B R ph S b
+  unfolding readBytes firstRead firstReadOf secondRead secondReadOf
+  unknown-turned f = turned-read 0 0 (rw f refl) (rw f refl) Unknown f
+
+-- ---- a block that does not ask
+
+module _ (h : ℕ) (B R S : List ℕ) (b ph : ℕ)
+    (quiet : asksInputs ph (isErrAck (controlByte R (groupOf B b))) (cell h S b) ≡ false) where
+  pub rest-turned : (ack : Bool) → ack ≡ isErrAck (controlByte R (groupOf B b)) →
+      restBytes ph ack (lentTo h S b) ≡ turned h B R ph S b
+  unfolding turned turnedFrom
+  rest-turned ack a =
+      (λ i. restBytes ph (a i) (lent-cell h S b i))
+      ∙ sym (rests _ _ ph (isErrAck (controlByte R (groupOf B b))) (elapsed R) _ _ (cell h S b) quiet)
+
+  pub rest-quiet : entering h B R ph S b ≡ false
+  unfolding entering turned turnedFrom
+  rest-quiet =
+      ap (entersFrom (cell h S b))
+      (rests _ _ ph (isErrAck (controlByte R (groupOf B b))) (elapsed R) _ _ (cell h S b) quiet)
+      ∙ rest-enters ph (isErrAck (controlByte R (groupOf B b))) (cell h S b)

@@ -1,82 +1,95 @@
--- One cycle of an accepted project (01, "One cycle" and "Finding"): the state, the outputs and the findings that it leaves.
--- F is the file, R the record, S the state before the cycle.
+-- One cycle of a project (01, "One cycle" and "Finding"): the state, the outputs and the findings that it leaves.
+-- G, B and O are the bodies of the groups, the blocks and the outputs, h is how many groups there are, R the record, S
+-- the state before the cycle.
 use Prim.Native.Nat.{ℕ, _*_}
-use mathlib.Core.Bool.{Bool, not, _&&_}
+use mathlib.Core.Bool.{Bool}
 use mathlib.Core.List.{List, [], _∷_, _++_}
-use lib.Dec.{eqb}
 use Rattle.wire.specs.Words.{bytes4}
 use Rattle.wire.specs.Records.{gather}
-use Rattle.casefile.specs.Layout.{groupCount, blockCount, kindOf, groupOf, orderOf, parametersOf, linkOf, outputCount, outputBlock, outputPort}
-use Rattle.block.specs.State.{ERROR, decode, encode}
+use Rattle.kind.specs.Devices.{isErrAck}
+use Rattle.project.specs.Project.{groupCount, blockCount, kindOf, groupOf, orderOf, parametersOf, linkOf, outputCount}
+use Rattle.project.specs.Project.{outputBlock, outputPort}
 use Rattle.block.specs.Inputs.{firstRead, secondRead}
-use Rattle.block.specs.Step.{stepOf}
+use Rattle.block.specs.State.{entersFrom}
+use Rattle.block.specs.Step.{blockStep}
 use Rattle.block.specs.Shows.{shows}
-use Rattle.block.specs.Finding.{findingSize, findingBytes}
+use Rattle.block.specs.Finding.{findingSize, findingOf}
 use Rattle.evaluator.specs.Net.{Wires, Net, words, seen, after}
-use Rattle.evaluator.specs.Groups.{elapsed, controlByte, inputWord, isErrAck, cell, codeOf, newGroup, phase}
+use Rattle.evaluator.specs.State.{cell}
+use Rattle.evaluator.specs.Groups.{elapsed, controlByte, inputWord, newGroup, phase}
 use Rattle.evaluator.specs.Packed.{hits, packed}
 
 -- ---- the blocks
 
--- 01, "One cycle": what port q of block a shows where the block's 16 bytes are s
+-- 01, "One cycle": what port q of block a shows where the block's bytes are s
 abbrev pub portShows : List ℕ → ℕ → ℕ → List ℕ → ℕ
-portShows F a q s = shows (kindOf F a) q (decode s .code) (decode s .output)
+portShows B a q s = shows (kindOf B a) (parametersOf B a) q s
 
 -- 01, "One cycle": the project's links, the record's inputs, what the ports show
-unfoldable pub wires : List ℕ → List ℕ → Wires (List ℕ)
-wires F R = record { link = linkOf F; given = inputWord F R; shows = portShows F }
+unfoldable pub wires : ℕ → List ℕ → List ℕ → Wires (List ℕ)
+wires h B R = record { link = linkOf B; given = inputWord h R; shows = portShows B }
 
--- 01, "One cycle": block b's 16 bytes after its turn, where its group g is in phase `phases g`, its bytes were s and input port p reads f p
-unfoldable pub blockStep : List ℕ → List ℕ → (ℕ → ℕ) → ℕ → List ℕ → (ℕ → ℕ) → List ℕ
-blockStep F R phases b s f =
-    encode (stepOf (kindOf F b) (parametersOf F b) (phases (groupOf F b)) (isErrAck (controlByte R (groupOf F b))) (elapsed R)
-    (firstRead (kindOf F b) (parametersOf F b) f) (secondRead (kindOf F b) (parametersOf F b) f) (decode s))
+-- 01, "Finding": the two words that block b reads, where its input port p reads f p
+abbrev pub firstOf : List ℕ → ℕ → (ℕ → ℕ) → ℕ
+firstOf B b f = firstRead (kindOf B b) (parametersOf B b) f
 
-unfoldable pub net : List ℕ → List ℕ → (ℕ → ℕ) → Net (List ℕ)
-net F R phases = record { wires = wires F R; step = blockStep F R phases }
+abbrev pub secondOf : List ℕ → ℕ → (ℕ → ℕ) → ℕ
+secondOf B b f = secondRead (kindOf B b) (parametersOf B b) f
 
--- 01, "One cycle": block b's 16 bytes after the cycle
-unfoldable pub newBlock : List ℕ → List ℕ → List ℕ → ℕ → List ℕ
-newBlock F R S b = after (blockCount F) (net F R (phase F R S)) (orderOf F) (cell F S) b
+-- 01, "One cycle": block b's bytes after its turn, where its group's phase is ph, its bytes were s and input port p
+-- reads f p
+unfoldable pub turnedFrom : List ℕ → List ℕ → ℕ → ℕ → List ℕ → (ℕ → ℕ) → List ℕ
+turnedFrom B R ph b s f =
+    blockStep (kindOf B b) (parametersOf B b) ph (isErrAck (controlByte R (groupOf B b))) (elapsed R)
+    (firstOf B b f) (secondOf B b f) s
+
+-- 01, "One cycle": the same for every block, where group g is in phase `phases g`
+unfoldable pub net : ℕ → List ℕ → List ℕ → (ℕ → ℕ) → Net (List ℕ)
+net h B R phases = record { wires = wires h B R; step = λ b. turnedFrom B R (phases (groupOf B b)) b }
+
+-- 01, "One cycle": block b's bytes after the cycle
+unfoldable pub ran : ℕ → List ℕ → List ℕ → (ℕ → ℕ) → List ℕ → ℕ → List ℕ
+ran h B R phases S b = after (blockCount B) (net h B R phases) (orderOf B) (cell h S) b
+
+unfoldable pub newBlock : List ℕ → List ℕ → List ℕ → List ℕ → ℕ → List ℕ
+newBlock G B R S b = ran (groupCount G) B R (phase G B R S) S b
 
 -- 01, "One cycle": what block b's input ports read when it ran
-unfoldable pub wordsRead : List ℕ → List ℕ → List ℕ → ℕ → ℕ → ℕ
-wordsRead F R S b = words (wires F R) (seen (orderOf F) (cell F S) (newBlock F R S) b) b
+unfoldable pub wordsRead : List ℕ → List ℕ → List ℕ → List ℕ → ℕ → ℕ → ℕ
+wordsRead G B R S b =
+    words (wires (groupCount G) B R) (seen (orderOf B) (cell (groupCount G) S) (newBlock G B R S) b) b
 
 -- ---- what a cycle leaves
 
 -- 01, "Turned down", Sizes: the group bytes, and then the blocks'
-unfoldable pub newState : List ℕ → List ℕ → List ℕ → List ℕ
-newState F R S = gather (groupCount F) (λ g. newGroup F R S g ∷ []) ++ gather (blockCount F) (newBlock F R S)
+unfoldable pub newHead : List ℕ → List ℕ → List ℕ → List ℕ → List ℕ
+newHead G B R S = gather (groupCount G) (λ g. newGroup G B R S g ∷ [])
+
+unfoldable pub newState : List ℕ → List ℕ → List ℕ → List ℕ → List ℕ
+newState G B R S = newHead G B R S ++ gather (blockCount B) (newBlock G B R S)
 
 -- 01, "One cycle": external output o, 4 bytes, the port's value when all have run
-unfoldable pub outputWord : List ℕ → List ℕ → List ℕ → ℕ → ℕ
-outputWord F R S o = portShows F (outputBlock F o) (outputPort F o) (newBlock F R S (outputBlock F o))
+unfoldable pub outputWord : List ℕ → List ℕ → List ℕ → List ℕ → List ℕ → ℕ → ℕ
+outputWord G B O R S o = portShows B (outputBlock O o) (outputPort O o) (newBlock G B R S (outputBlock O o))
 
-unfoldable pub newOutputs : List ℕ → List ℕ → List ℕ → List ℕ
-newOutputs F R S = gather (outputCount F) (λ o. bytes4 (outputWord F R S o))
-
--- 01, "Finding": a block that enters 4, from its codes before and after, and from its bytes
-abbrev pub entersCode : ℕ → ℕ → Bool
-entersCode old new = eqb new ERROR && not (eqb old ERROR)
-
-unfoldable pub entersFrom : List ℕ → List ℕ → Bool
-entersFrom old new = entersCode (codeOf old) (codeOf new)
+unfoldable pub newOutputs : List ℕ → List ℕ → List ℕ → List ℕ → List ℕ → List ℕ
+newOutputs G B O R S = gather (outputCount O) (λ o. bytes4 (outputWord G B O R S o))
 
 -- 01, "Finding": what block b's finding says, where its input port p read f p and its bytes are now s
 unfoldable pub findingFor : List ℕ → ℕ → (ℕ → ℕ) → List ℕ → List ℕ
-findingFor F b f s =
-    findingBytes b (groupOf F b) (kindOf F b) (decode s .diagnosis) (firstRead (kindOf F b) (parametersOf F b) f) (secondRead (kindOf F b) (parametersOf F b) f)
+findingFor B b f s = findingOf b (groupOf B b) (kindOf B b) (firstOf B b f) (secondOf B b f) s
 
-unfoldable pub enters : List ℕ → List ℕ → List ℕ → ℕ → Bool
-enters F R S b = entersFrom (cell F S b) (newBlock F R S b)
+-- 01, "Finding": for a block that enters 4
+unfoldable pub enters : List ℕ → List ℕ → List ℕ → List ℕ → ℕ → Bool
+enters G B R S b = entersFrom (cell (groupCount G) S b) (newBlock G B R S b)
 
-unfoldable pub finding : List ℕ → List ℕ → List ℕ → ℕ → List ℕ
-finding F R S b = findingFor F b (wordsRead F R S b) (newBlock F R S b)
+unfoldable pub finding : List ℕ → List ℕ → List ℕ → List ℕ → ℕ → List ℕ
+finding G B R S b = findingFor B b (wordsRead G B R S b) (newBlock G B R S b)
 
--- 01, "Finding": in order of block number, unused finding bytes are zero; "Turned down": accepted, a call returns the count of findings
-unfoldable pub findingCount : List ℕ → List ℕ → List ℕ → ℕ
-findingCount F R S = hits (blockCount F) (enters F R S)
+-- 01, "Finding": in order of block number, unused finding bytes are zero; "Turned down": accepted, a call returns the
+-- count of findings
+unfoldable pub findingCount : List ℕ → List ℕ → List ℕ → List ℕ → ℕ
+findingCount G B R S = hits (blockCount B) (enters G B R S)
 
-unfoldable pub newFindings : List ℕ → List ℕ → List ℕ → List ℕ
-newFindings F R S = packed (findingSize * blockCount F) (blockCount F) (enters F R S) (finding F R S)
+unfoldable pub newFindings : List ℕ → List ℕ → List ℕ → List ℕ → List ℕ
+newFindings G B R S = packed (findingSize * blockCount B) (blockCount B) (enters G B R S) (finding G B R S)

@@ -1,9 +1,10 @@
 pub mod Net
+pub mod State
 pub mod Groups
 pub mod Packed
 pub mod Cycle
 pub mod Answer
+pub mod Runs
 pub mod Fresh
 pub mod Steps
-pub mod Fits
-pub mod Demands
+pub mod Asks

@@ -1,16 +1,14 @@
-// The evaluator: one cycle of a project over a case file, a record and lent buffers, the sizes of those buffers, and the fresh state. Every call checks all that
-// it is given, gives each input an answer, and where it turns a call down, writes nothing. `specs/Answer.antt` says what a call answers and leaves, `specs/Cycle.antt`
-// what a cycle is.
+// The evaluator: one cycle of a project over a case file, a record and lent buffers, the sizes of those buffers, and
+// the fresh state. Every call checks all that it is given, gives each input an answer, and where it turns a call down,
+// writes nothing. `specs/Answer.antt` says what a call answers and leaves, `specs/Cycle.antt` what a cycle is. Below
+// the calls nobody knows the file: a project is its bodies.
 ghost use mathlib.Core.Path.{_≡_};
-ghost use Prim.Native.Nat.{_*_};
-ghost use lib.ListN.{length};
-ghost use Rattle.wire.specs.Records.{gather};
-ghost use Rattle.block.specs.State.{freshState, encode};
-ghost use Rattle.evaluator.specs.Answer.{lends, refusal, cycleOf, stateLength};
-ghost use Rattle.casefile.specs.Layout.{bodyI, bodyB, bodyOf};
-ghost use Rattle.evaluator.specs.Fits.{Ready, orderList, errorList};
-ghost use Rattle.evaluator.specs.Steps.{Taken, stepAnswer, stepState, stepFindings};
+ghost use Rattle.project.specs.Project.{inputCount};
+ghost use Rattle.casefile.specs.Bodies.{projectOf};
+ghost use Rattle.evaluator.specs.Answer.{lends, refusal, cycleOf};
 ghost use Rattle.evaluator.specs.Fresh.{sizesOf, freshNumber, freshLeft};
+ghost use Rattle.evaluator.specs.Steps.{stepAnswer, stepState, stepFindings};
+ghost use Rattle.evaluator.specs.Asks.{Standing, Grouped, Ordered, Begun, Listed, orderList, errorList, countsIn};
 
 mod advance;
 mod checks;
@@ -19,14 +17,16 @@ mod groups;
 mod outputs;
 mod parts;
 mod ranks;
+mod start;
 mod turns;
 
 use block::FINDING_SIZE;
 use block::STATE_SIZE;
-use casefile::Layout;
+use project::Counts;
+use project::WORD_SIZE;
 
-// How many bytes an input has in a record, and an external output in its buffer.
-const WORD_SIZE: usize = 4;
+// Where the groups' bytes start in the state; the blocks' follow them.
+pub const GROUPS_AT: usize = 0;
 
 // What a cycle call answers: the count of findings, or the number with which it was turned down.
 pub enum Answer {
@@ -36,36 +36,42 @@ pub enum Answer {
 
 // The number with which a call is turned down, 0 where it is not.
 fn refusal_of(file: &[u8], rec: &[u8], state: &[u8], outputs: &[u8], findings: &[u8]) -> u8
-    ensures { λ r. ⌜ r ≡ refusal (now (file .entry)) (now (rec .entry)) (lends (now (state .entry)) (now (outputs .entry)) (now (findings .entry))) ⌝ }
+    ensures { λ r. ⌜ r ≡ refusal (now (file .entry)) (now (rec .entry))
+        (lends (now (state .entry)) (now (outputs .entry)) (now (findings .entry))) ⌝ }
 {
     let number = casefile::number_of(casefile::check(file));
     if number != 0 {
         return number;
     }
-    let l = casefile::layout_of(file);
-    if !checks::sizes_ok(file, l, state.len(), outputs.len(), findings.len()) {
-        return 10;
-    }
-    if !checks::state_ok(file, l, casefile::body(file, casefile::BODY_B), state) {
-        return 11;
-    }
     let groups = casefile::body(file, casefile::BODY_G);
     let inputs = casefile::body(file, casefile::BODY_I);
-    if !checks::record_ok(file, l, groups, inputs, rec) {
+    let blocks = casefile::body(file, casefile::BODY_B);
+    let rows = casefile::body(file, casefile::BODY_O);
+    let c = project::counts_of(groups, inputs, blocks, rows);
+    if !checks::sizes_ok(c, state.len(), outputs.len(), findings.len()) {
+        return 10;
+    }
+    if !checks::state_ok(c, blocks, state) {
+        return 11;
+    }
+    if !checks::record_ok(c, groups, inputs, rec) {
         return 12;
     }
     0
 }
 
-// A call that is turned down with a number. Every one is answered here, and leaves the buffers that it was lent as they were.
+// A call that is turned down with a number. Every one is answered here, and leaves the buffers that it was lent as they
+// were.
 fn turned_down(number: u8, state: &mut [u8], outputs: &mut [u8], findings: &mut [u8]) -> Answer
     ensures answered { λ r. ⌜ r ≡ Answer.Refused number ⌝ }
-    ensures kept { λ _. ⌜ lends (now (state .exit)) (now (outputs .exit)) (now (findings .exit)) ≡ lends (now (state .entry)) (now (outputs .entry)) (now (findings .entry)) ⌝ }
+    ensures kept { λ _. ⌜ lends (now (state .exit)) (now (outputs .exit)) (now (findings .exit))
+        ≡ lends (now (state .entry)) (now (outputs .entry)) (now (findings .entry)) ⌝ }
 {
     Answer::Refused(number)
 }
 
-// One cycle: the file's project from the state, with the record. Accepted, the state, the outputs and the findings are the cycle's; turned down, they are as they were.
+// One cycle: the file's project from the state, with the record. Accepted, the state, the outputs and the findings are
+// the cycle's; turned down, they are as they were.
 pub fn cycle(
     file: &[u8],
     rec: &[u8],
@@ -73,21 +79,41 @@ pub fn cycle(
     outputs: &mut [u8],
     findings: &mut [u8],
 ) -> Answer
-    ensures answered { λ r. ⌜ r ≡ cycleOf (now (file .entry)) (now (rec .entry)) (lends (now (state .entry)) (now (outputs .entry)) (now (findings .entry))) .answer ⌝ }
-    ensures left { λ _. ⌜ now (state .exit) ≡ cycleOf (now (file .entry)) (now (rec .entry)) (lends (now (state .entry)) (now (outputs .entry)) (now (findings .entry))) .lent .state ⌝ }
-    ensures shown { λ _. ⌜ now (outputs .exit) ≡ cycleOf (now (file .entry)) (now (rec .entry)) (lends (now (state .entry)) (now (outputs .entry)) (now (findings .entry))) .lent .outputs ⌝ }
-    ensures told { λ _. ⌜ now (findings .exit) ≡ cycleOf (now (file .entry)) (now (rec .entry)) (lends (now (state .entry)) (now (outputs .entry)) (now (findings .entry))) .lent .findings ⌝ }
+    ensures answered { λ r. ⌜ r ≡ cycleOf (now (file .entry)) (now (rec .entry))
+        (lends (now (state .entry)) (now (outputs .entry)) (now (findings .entry))) .answer ⌝ }
+    ensures left { λ _. ⌜ now (state .exit)
+        ≡ cycleOf (now (file .entry)) (now (rec .entry))
+        (lends (now (state .entry)) (now (outputs .entry)) (now (findings .entry))) .lent .state ⌝ }
+    ensures shown { λ _. ⌜ now (outputs .exit)
+        ≡ cycleOf (now (file .entry)) (now (rec .entry))
+        (lends (now (state .entry)) (now (outputs .entry)) (now (findings .entry))) .lent .outputs ⌝ }
+    ensures told { λ _. ⌜ now (findings .exit)
+        ≡ cycleOf (now (file .entry)) (now (rec .entry))
+        (lends (now (state .entry)) (now (outputs .entry)) (now (findings .entry))) .lent .findings ⌝ }
 {
     let number = refusal_of(file, rec, state, outputs, findings);
     if number != 0 {
         return turned_down(number, state, outputs, findings);
     }
-    let l = casefile::layout_of(file);
     let groups = casefile::body(file, casefile::BODY_G);
+    let inputs = casefile::body(file, casefile::BODY_I);
     let blocks = casefile::body(file, casefile::BODY_B);
     let rows = casefile::body(file, casefile::BODY_O);
-    let count = advance::whole_cycle(file, l, groups, blocks, rows, rec, state, outputs, findings);
+    let c = project::counts_of(groups, inputs, blocks, rows);
+    let count = advance::whole_cycle(c, groups, blocks, rows, rec, state, outputs, findings);
     Answer::Findings(count)
+}
+
+// The counts of the file's project.
+fn counts_in(file: &[u8]) -> Counts
+    ensures { λ r. ⌜ r ≡ countsIn (projectOf (now (file .entry))) ⌝ }
+{
+    project::counts_of(
+        casefile::body(file, casefile::BODY_G),
+        casefile::body(file, casefile::BODY_I),
+        casefile::body(file, casefile::BODY_B),
+        casefile::body(file, casefile::BODY_O),
+    )
 }
 
 // What the buffers' sizes are, or the number with which the file was turned down.
@@ -108,31 +134,19 @@ pub fn sizes_of(file: &[u8]) -> Sizes
     if number != 0 {
         return Sizes::Refused(number);
     }
-    let l = casefile::layout_of(file);
-    let groups = l.groups;
-    let blocks = l.blocks;
-    let outputs = l.outputs;
+    let c = counts_in(file);
+    let groups = c.groups;
+    let blocks = c.blocks;
+    let outputs = c.outputs;
     Sizes::Bytes {
-        state: (groups + STATE_SIZE * blocks) as u32,
+        state: (GROUPS_AT + groups + STATE_SIZE * blocks) as u32,
         outputs: (WORD_SIZE * outputs) as u32,
         findings: (FINDING_SIZE * blocks) as u32,
     }
 }
 
-// The fresh bytes of n blocks.
-fn fresh_blocks(cells: &mut [u8], n: usize)
-    requires { ⌜ length (now cells) ≡ 16 * n ⌝ }
-    ensures { λ _. ⌜ now (cells .exit) ≡ gather n (λ b. encode freshState) ⌝ }
-{
-    let mut b = 0;
-    while b < n {
-        let bytes = block::pack(block::fresh());
-        wire::put(cells, STATE_SIZE * b, &bytes);
-        b += 1;
-    }
-}
-
-// The fresh state of an accepted project, into a buffer of the exact size. Answers 0, or the number with which the call was turned down.
+// The fresh state of an accepted project, into a buffer of the exact size. Answers 0, or the number with which the call
+// was turned down.
 pub fn fresh(file: &[u8], state: &mut [u8]) -> u8
     ensures answered { λ r. ⌜ r ≡ freshNumber (now (file .entry)) (now (state .entry)) ⌝ }
     ensures left { λ _. ⌜ now (state .exit) ≡ freshLeft (now (file .entry)) (now (state .entry)) ⌝ }
@@ -141,41 +155,39 @@ pub fn fresh(file: &[u8], state: &mut [u8]) -> u8
     if number != 0 {
         return number;
     }
-    let l = casefile::layout_of(file);
-    let groups = l.groups;
-    let blocks = l.blocks;
-    if state.len() != groups + STATE_SIZE * blocks {
+    let c = counts_in(file);
+    let groups = c.groups;
+    let blocks = c.blocks;
+    if state.len() != GROUPS_AT + groups + STATE_SIZE * blocks {
         return 10;
     }
-    wire::clear(state);
-    fresh_blocks(&mut state[groups..], blocks);
+    start::write_fresh(GROUPS_AT + groups, blocks, state);
     0
 }
 
-// ---- for a whole trace, whose file is checked once. What these three require is what `fresh` has tested, the file's bodies, and what they themselves leave.
+// ---- for a whole trace, whose file is checked once. What these three require is what `fresh` has tested, the bodies
+// of the file, and what they themselves leave.
 
 // The blocks by execution number.
-pub fn block_order(file: &[u8], l: Layout, blocks: &[u8]) -> [u8; 64]
-    requires { ⌜ Taken (now file) l ⌝ }
-    requires { ⌜ now blocks ≡ bodyOf (now file) bodyB ⌝ }
-    ensures { λ r. ⌜ r ≡ orderList (now (file .entry)) ⌝ }
+pub fn block_order(c: Counts, blocks: &[u8]) -> [u8; 64]
+    requires { ⌜ Ordered (now blocks) (c .blocks) ⌝ }
+    ensures { λ r. ⌜ r ≡ orderList (now (blocks .entry)) ⌝ }
 {
-    ranks::ranks(file, blocks, l.blocks)
+    ranks::ranks(blocks, c.blocks)
 }
 
 // The groups that have a block in ERROR, a byte each.
-pub fn groups_in_error(file: &[u8], l: Layout, blocks: &[u8], state: &[u8]) -> [u8; 8]
-    requires { ⌜ Taken (now file) l ⌝ }
-    requires { ⌜ (now blocks ≡ bodyOf (now file) bodyB) × (length (now state) ≡ stateLength (now file)) ⌝ }
-    ensures { λ r. ⌜ r ≡ errorList (now (file .entry)) (now (state .entry)) ⌝ }
+pub fn groups_in_error(c: Counts, blocks: &[u8], state: &[u8]) -> [u8; 8]
+    requires { ⌜ Standing (now blocks) (now state) (c .groups) ⌝ }
+    requires { ⌜ Grouped (now blocks) (c .blocks) ⌝ }
+    ensures { λ r. ⌜ r ≡ errorList (c .groups) (now (blocks .entry)) (now (state .entry)) ⌝ }
 {
-    groups::error_groups(file, blocks, l.groups, l.blocks, state)
+    groups::error_groups(blocks, c.groups, c.blocks, state)
 }
 
-// One cycle of an accepted file from a well-formed state.
+// One cycle of an accepted project from a well-formed state.
 pub fn step(
-    file: &[u8],
-    l: Layout,
+    c: Counts,
     groups: &[u8],
     inputs: &[u8],
     blocks: &[u8],
@@ -185,15 +197,21 @@ pub fn step(
     state: &mut [u8],
     findings: &mut [u8],
 ) -> Answer
-    requires { ⌜ now inputs ≡ bodyOf (now file) bodyI ⌝ }
-    requires { ⌜ Ready (now file) l (now groups) (now blocks) (now order) (now errors) (now state) (now findings) ⌝ }
-    ensures answered { λ r. ⌜ r ≡ stepAnswer (now (file .entry)) (now (rec .entry)) (now (state .entry)) ⌝ }
-    ensures left { λ _. ⌜ now (state .exit) ≡ stepState (now (file .entry)) (now (rec .entry)) (now (state .entry)) ⌝ }
-    ensures told { λ _. ⌜ now (findings .exit) ≡ stepFindings (now (file .entry)) (now (rec .entry)) (now (state .entry)) (now (findings .entry)) ⌝ }
+    requires { ⌜ Listed c (now groups) (now inputs) ⌝ }
+    requires { ⌜ Begun c (inputCount (now inputs)) (now groups) (now blocks) (now order) (now errors) (now state)
+        (now findings) ⌝ }
+    ensures answered { λ r. ⌜ r ≡ stepAnswer (now (groups .entry)) (now (inputs .entry)) (now (blocks .entry))
+        (now (rec .entry)) (now (state .entry)) ⌝ }
+    ensures left { λ _. ⌜ now (state .exit)
+        ≡ stepState (now (groups .entry)) (now (inputs .entry)) (now (blocks .entry)) (now (rec .entry))
+        (now (state .entry)) ⌝ }
+    ensures told { λ _. ⌜ now (findings .exit)
+        ≡ stepFindings (now (groups .entry)) (now (inputs .entry)) (now (blocks .entry)) (now (rec .entry))
+        (now (state .entry)) (now (findings .entry)) ⌝ }
 {
-    if !checks::record_ok(file, l, groups, inputs, rec) {
+    if !checks::record_ok(c, groups, inputs, rec) {
         return Answer::Refused(12);
     }
-    let count = advance::advance(file, l, groups, blocks, order, errors, rec, state, findings);
+    let count = advance::advance(c, groups, blocks, order, errors, rec, state, findings);
     Answer::Findings(count)
 }

@@ -4,13 +4,14 @@ ghost use Prim.Native.Nat.{_*_};
 ghost use lib.ListN.{length};
 ghost use Rattle.wire.specs.Words.{bytes4};
 ghost use Rattle.wire.specs.Records.{gather};
-ghost use Rattle.evaluator.specs.Fits.{Standing, Shown, outputShown};
-use crate::WORD_SIZE;
+ghost use Rattle.project.specs.Project.{wordSize};
+ghost use Rattle.evaluator.specs.Asks.{Standing, Showing, outputShown};
 use crate::parts::part_at;
+use project::OUTPUT_SIZE;
+use project::WORD_SIZE;
 
 // Each of the m outputs as 4 bytes: what its port shows in the state.
 pub fn write_outputs(
-    file: &[u8],
     blocks: &[u8],
     rows: &[u8],
     h: usize,
@@ -18,22 +19,17 @@ pub fn write_outputs(
     state: &[u8],
     outputs: &mut [u8],
 )
-    requires { ⌜ Standing (now file) (now blocks) (now state) h ⌝ }
-    requires { ⌜ Shown (now file) (now rows) m ⌝ }
-    requires { ⌜ length (now outputs) ≡ 4 * m ⌝ }
-    ensures { λ _. ⌜ now (outputs .exit) ≡ gather m (λ o. bytes4 (outputShown (now (file .entry)) (now (state .entry)) o)) ⌝ }
+    requires { ⌜ Standing (now blocks) (now state) h ⌝ }
+    requires { ⌜ Showing (now blocks) (now rows) m ⌝ }
+    requires { ⌜ length (now outputs) ≡ wordSize * m ⌝ }
+    ensures { λ _. ⌜ now (outputs .exit)
+        ≡ gather m (λ o. bytes4 (outputShown h (now (blocks .entry)) (now (rows .entry)) (now (state .entry)) o)) ⌝ }
 {
     let mut o = 0;
     while o < m {
-        let r = part_at(rows, casefile::OUTPUT_SIZE * o, casefile::OUTPUT_SIZE);
-        let word = crate::turns::port_shows(
-            file,
-            blocks,
-            h,
-            state,
-            casefile::output_block(r),
-            casefile::output_port(r),
-        );
+        let r = part_at(rows, OUTPUT_SIZE * o, OUTPUT_SIZE);
+        let a = project::output_block(r);
+        let word = crate::turns::port_shows(blocks, h, state, a, project::output_port(r));
         wire::write32(outputs, WORD_SIZE * o, word);
         o += 1;
     }

@@ -1,5 +1,5 @@
--- A cycle has at most as many findings as an accepted file has blocks, so that the count fits C's number; and no buffer of an accepted file is larger than the
--- header says. Assumes nothing.
+-- A cycle has at most as many findings as an accepted file has blocks, so that the count fits C's number; and no buffer
+-- of an accepted file is larger than the header says. Assumes nothing.
 use mathlib.Core.Path.{_≡_, refl, sym, ap, subst}
 use mathlib.Core.Bool.{Bool, true, false, cond}
 use mathlib.Core.List.{List}
@@ -7,17 +7,26 @@ use Prim.Native.Nat.{ℕ, zero, suc, _≤_}
 use native.Mathlib.Omega.{arith}
 use lib.Dec.{eqb}
 use borrow.Author.Tests.{ne-eqb}
-use Rattle.casefile.specs.Layout.{blockCount}
-use Rattle.casefile.specs.Refusal.{verdict, numberOf}
-use Rattle.casefile.proofs.Accepted.{number-zero, accepted}
+use Rattle.wire.specs.Tables.{first}
+use Rattle.project.specs.Project.{blockCount}
+use Rattle.casefile.specs.Bodies.{projectOf}
+use Rattle.casefile.specs.Refusal.{fileTable}
+use Rattle.casefile.proofs.Refusals.{number-zero}
+use Rattle.casefile.proofs.Accepted.{accepted}
 use Rattle.evaluator.specs.declared.Answer.{Answer}
 use Rattle.evaluator.specs.declared.Answer.the-variants.{Findings, Refused}
+use Rattle.evaluator.specs.declared.Sizes.{Sizes}
+use Rattle.evaluator.specs.State.{stateLength, outputsLength, findingsLength}
 use Rattle.evaluator.specs.Packed.{hits}
 use Rattle.evaluator.specs.Cycle.{enters, findingCount}
-use Rattle.evaluator.specs.Answer.{Lent, refusal, leaves, cycleOf, stateLength, outputsLength, findingsLength}
+use Rattle.evaluator.specs.Answer.{Lent, refusal, leaves, cycleOf}
 use Rattle.evaluator.specs.Fresh.{sizesAt, sizesOf}
-use Rattle.evaluator.proofs.Calls.{passed}
-use Rattle.hagglethwait.specs.Calls.{stateSaid, outputsSaid, findingsSaid}
+use Rattle.evaluator.proofs.Checking.{Taken, taken}
+use Rattle.evaluator.proofs.Calls.{call-taken}
+use Rattle.hagglethwait.specs.Calls.{stateSaid, outputsSaid, findingsSaid, mostBlocks, mostState}
+use Rattle.hagglethwait.specs.Calls.{mostOutputBytes, mostFindingBytes}
+
+-- ---- the count
 
 one-most : (t : Bool) → cond t 1 0 ≤ 1
 one-most true = omega arith
@@ -34,50 +43,47 @@ countIn (Findings k) = k
 countIn (Refused n) = 0
 
 module _ (F R : List ℕ) (L : Lent) where
-  few-blocks : refusal F R L ≡ 0 → blockCount F ≤ 64
-  few-blocks z = accepted F (number-zero (verdict F) (passed F R L z .number)) .blocks .few
-
-  few-left : (n : ℕ) → refusal F R L ≡ n → countIn (leaves n F R L .answer) ≤ 64
+  few-left : (n : ℕ) → refusal F R L ≡ n → countIn (leaves n (projectOf F) R L .answer) ≤ mostBlocks
   unfolding findingCount
-  few-left zero z = omega (arith, hits-most (blockCount F) (enters F R (L .state)), few-blocks z)
+  few-left zero z =
+      let P = projectOf F in
+      let hit = enters (P .groups) (P .blocks) R (L .state) in
+      omega (arith, hits-most (blockCount (P .blocks)) hit, call-taken F R L z .sound .fewBlocks)
   few-left (suc n) z = omega arith
 
-  few-counted : countIn (cycleOf F R L .answer) ≤ 64
+  few-counted : countIn (cycleOf F R L .answer) ≤ mostBlocks
   unfolding cycleOf
   few-counted = few-left (refusal F R L) refl
 
-  -- an answer that is a count is at most 64
-  pub few : (k : ℕ) → Findings k ≡ cycleOf F R L .answer → k ≤ 64
-  few k e = subst (λ (n : ℕ). n ≤ 64) (sym (ap countIn e)) few-counted
+  -- an answer that is a count is at most the number of blocks that a file may have
+  pub few : (k : ℕ) → Findings k ≡ cycleOf F R L .answer → k ≤ mostBlocks
+  few k e = subst (λ (n : ℕ). n ≤ mostBlocks) (sym (ap countIn e)) few-counted
+
+-- ---- the sizes, as they are left in numbers that were 0
 
 not-zero : (n : ℕ) → eqb (suc n) 0 ≡ false
 not-zero n = ne-eqb (suc n) 0 (λ h. omega (arith, h))
 
--- the sizes, as they are left in numbers that were 0
+-- what the header says of them
+pub record Small (z : Sizes) : Type 0 where
+  pub state : stateSaid z 0 ≤ mostState
+  pub outputs : outputsSaid z 0 ≤ mostOutputBytes
+  pub findings : findingsSaid z 0 ≤ mostFindingBytes
+
 module _ (F : List ℕ) where
-  state-at : (n : ℕ) → numberOf (verdict F) ≡ n → stateSaid (sizesAt n F) 0 ≤ 1032
-  unfolding stateLength
-  state-at zero z = let g = accepted F (number-zero (verdict F) z) in omega (arith, g .groups .few, g .blocks .few)
-  state-at (suc n) z = rw (not-zero n) (omega arith)
+  small-at : (n : ℕ) → first (fileTable F) ≡ n → Small (sizesAt n (projectOf F))
+  unfolding stateLength outputsLength findingsLength
+  small-at zero z =
+      let t : Taken (projectOf F) = taken F (accepted F (number-zero F z)) in
+      record {
+        state = omega (arith, t .sound .fewGroups, t .sound .fewBlocks);
+        outputs = omega (arith, t .shown .few);
+        findings = omega (arith, t .sound .fewBlocks);
+      }
+  small-at (suc n) z =
+      rw (not-zero n)
+      (record { state = omega arith; outputs = omega arith; findings = omega arith })
 
-  outputs-at : (n : ℕ) → numberOf (verdict F) ≡ n → outputsSaid (sizesAt n F) 0 ≤ 256
-  unfolding outputsLength
-  outputs-at zero z = let g = accepted F (number-zero (verdict F) z) in omega (arith, g .outputs .few)
-  outputs-at (suc n) z = rw (not-zero n) (omega arith)
-
-  findings-at : (n : ℕ) → numberOf (verdict F) ≡ n → findingsSaid (sizesAt n F) 0 ≤ 1024
-  unfolding findingsLength
-  findings-at zero z = let g = accepted F (number-zero (verdict F) z) in omega (arith, g .blocks .few)
-  findings-at (suc n) z = rw (not-zero n) (omega arith)
-
-  pub state-most : stateSaid (sizesOf F) 0 ≤ 1032
+  pub small : Small (sizesOf F)
   unfolding sizesOf
-  state-most = state-at (numberOf (verdict F)) refl
-
-  pub outputs-most : outputsSaid (sizesOf F) 0 ≤ 256
-  unfolding sizesOf
-  outputs-most = outputs-at (numberOf (verdict F)) refl
-
-  pub findings-most : findingsSaid (sizesOf F) 0 ≤ 1024
-  unfolding sizesOf
-  findings-most = findings-at (numberOf (verdict F)) refl
+  small = small-at (first (fileTable F)) refl

@@ -1,10 +1,10 @@
-// The product's calls for programs in other languages: a static library whose functions have C's calling convention, over numbers and byte slices. A slice
-// stands in C as two arguments, a pointer and a length (`include/hagglethwait.h`). No function requires anything; refused, a call writes nothing.
+// The product's calls for programs in other languages: a static library whose functions have C's calling convention,
+// over numbers and byte slices. A slice stands in C as two arguments, a pointer and a length
+// (`include/hagglethwait.h`). No function requires anything; refused, a call writes nothing.
 ghost use mathlib.Core.Path.{_≡_};
 ghost use Rattle.casefile.specs.Refusal.{verdict, numberOf};
-ghost use Rattle.evaluator.specs.Answer.{lends, cycleOf};
 ghost use Rattle.evaluator.specs.Fresh.{sizesOf, sizesNumber, freshNumber, freshLeft};
-ghost use Rattle.hagglethwait.specs.Calls.{answerNumber, stateSaid, outputsSaid, findingsSaid};
+ghost use Rattle.hagglethwait.specs.Calls.{callOf, answerNumber, stateSaid, outputsSaid, findingsSaid};
 use evaluator::Answer;
 use evaluator::Sizes;
 
@@ -16,7 +16,8 @@ pub extern "C" fn hagglethwait_check(file: &[u8]) -> u8
     casefile::number_of(casefile::check(file))
 }
 
-// The sizes of the three buffers of an accepted file's cycles. Answers 0, or the number with which the file is turned down.
+// The sizes of the three buffers of an accepted file's cycles. Answers 0, or the number with which the file is turned
+// down.
 #[no_mangle]
 pub extern "C" fn hagglethwait_sizes(
     file: &[u8],
@@ -45,7 +46,8 @@ pub extern "C" fn hagglethwait_sizes(
     }
 }
 
-// The fresh state of an accepted file, into a buffer of the exact size. Answers 0, or the number with which the call is turned down.
+// The fresh state of an accepted file, into a buffer of the exact size. Answers 0, or the number with which the call is
+// turned down.
 #[no_mangle]
 pub extern "C" fn hagglethwait_fresh(file: &[u8], state: &mut [u8]) -> u8
     ensures answered { λ r. ⌜ r ≡ freshNumber (now (file .entry)) (now (state .entry)) ⌝ }
@@ -54,7 +56,8 @@ pub extern "C" fn hagglethwait_fresh(file: &[u8], state: &mut [u8]) -> u8
     evaluator::fresh(file, state)
 }
 
-// One cycle from the state, with the record. Answers the count of findings, 0 or more, or minus the number with which the call is turned down.
+// One cycle from the state, with the record. Answers the count of findings, 0 or more, or minus the number with which
+// the call is turned down.
 #[no_mangle]
 pub extern "C" fn hagglethwait_cycle(
     file: &[u8],
@@ -63,10 +66,14 @@ pub extern "C" fn hagglethwait_cycle(
     outputs: &mut [u8],
     findings: &mut [u8],
 ) -> i32
-    ensures answered { λ r. ⌜ r ≡ answerNumber (cycleOf (now (file .entry)) (now (rec .entry)) (lends (now (state .entry)) (now (outputs .entry)) (now (findings .entry))) .answer) ⌝ }
-    ensures left { λ _. ⌜ now (state .exit) ≡ cycleOf (now (file .entry)) (now (rec .entry)) (lends (now (state .entry)) (now (outputs .entry)) (now (findings .entry))) .lent .state ⌝ }
-    ensures shown { λ _. ⌜ now (outputs .exit) ≡ cycleOf (now (file .entry)) (now (rec .entry)) (lends (now (state .entry)) (now (outputs .entry)) (now (findings .entry))) .lent .outputs ⌝ }
-    ensures told { λ _. ⌜ now (findings .exit) ≡ cycleOf (now (file .entry)) (now (rec .entry)) (lends (now (state .entry)) (now (outputs .entry)) (now (findings .entry))) .lent .findings ⌝ }
+    ensures answered { λ r. ⌜ r ≡ answerNumber (callOf (now (file .entry)) (now (rec .entry)) (now (state .entry))
+        (now (outputs .entry)) (now (findings .entry)) .answer) ⌝ }
+    ensures left { λ _. ⌜ now (state .exit) ≡ callOf (now (file .entry)) (now (rec .entry)) (now (state .entry))
+        (now (outputs .entry)) (now (findings .entry)) .lent .state ⌝ }
+    ensures shown { λ _. ⌜ now (outputs .exit) ≡ callOf (now (file .entry)) (now (rec .entry)) (now (state .entry))
+        (now (outputs .entry)) (now (findings .entry)) .lent .outputs ⌝ }
+    ensures told { λ _. ⌜ now (findings .exit) ≡ callOf (now (file .entry)) (now (rec .entry)) (now (state .entry))
+        (now (outputs .entry)) (now (findings .entry)) .lent .findings ⌝ }
 {
     let answer = evaluator::cycle(file, rec, state, outputs, findings);
     match answer {

@@ -1,7 +1,8 @@
-// Runs the arithmetic blocks on the vectors of standard input and prints what each gives, so that a second source can be compared.
-// A vector has 12 bytes: the operation (0 ADD, 1 SUB, 2 MUL, 3 DIV floor, 4 DIV ceil, 5 DIV round), the types of the first input, the
-// second and the output (0 INT16, 1 UINT16, 2 INT32, 3 UINT32), the first word and the second (4 bytes each, little endian). Its line
-// is `below`, `above`, or the resulting word in decimal, signed by the output type. A vector that is broken off ends the run.
+// Runs the arithmetic blocks on the vectors of standard input and prints what each gives, so that a second source can
+// be compared. A vector has 12 bytes: the operation (0 ADD, 1 SUB, 2 MUL, 3 DIV floor, 4 DIV ceil, 5 DIV round), the
+// types of the first input, the second and the output (0 INT16, 1 UINT16, 2 INT32, 3 UINT32), the first word and the
+// second (4 bytes each, little endian). Its line is `below`, `above`, or the resulting word in decimal, signed by the
+// output type. A vector that is broken off ends the run.
 ghost use Prim.Native.Nat.{_≤_};
 ghost use lib.ListN.{length};
 use libc::STDIN_FILENO;
@@ -89,8 +90,8 @@ fn print(out: &[u8], used: usize) {
     }
 }
 
-// Reads up to 186 vectors, prints their lines with one write, and answers whether there may be more. A line is at most 22 bytes long,
-// so that the lines have room.
+// Reads up to 186 vectors, prints their lines with one write, and answers whether there may be more. A line is at most
+// 22 bytes long, so that the lines have room.
 fn some() -> bool {
     let mut vectors = [0u8; 2232];
     let n = io::read_full(STDIN_FILENO, &mut vectors);

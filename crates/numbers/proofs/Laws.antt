@@ -1,10 +1,10 @@
--- Sign and magnitude against ℤ: what the code computes on magnitudes is the library's sum, product, order and quotient, and the definitions
--- of `specs/` at a sign and a magnitude. Every law is by cases on the signs.
--- Assumes nothing.
+-- Sign and magnitude against ℤ: what the code computes on magnitudes is the library's sum, product, order and quotient,
+-- and the definitions of `specs/` at a sign and a magnitude. Every law is by cases on the signs. Assumes nothing.
 use mathlib.Core.Path.{_≡_, refl, sym, ap, _∙_, subst⁻¹}
 use mathlib.Core.Bool.{Bool, true, false, not, _&&_}
 use Prim.Native.Nat.{ℕ, zero, suc, _+_, _-_, _*_, _/_, _%_, _^_, _≤_, _<_, zero-le}
-use native.Mathlib.Nat.{mul-zero, zero-mul, add-zero, sub-zero, le-of-lt, lt-of-le-of-lt, mul-le-mul-left, mul-lt-mul-of-pos-right, zero-div, zero-mod, not-suc-le-zero}
+use native.Mathlib.Nat.{mul-zero, zero-mul, add-zero, sub-zero, le-of-lt, lt-of-le-of-lt, mul-le-mul-left}
+use native.Mathlib.Nat.{mul-lt-mul-of-pos-right, zero-div, zero-mod, not-suc-le-zero}
 use lib.Pow.{pow-pos, pow-add}
 use native.Mathlib.Omega.{arith}
 use borrow.Author.Tests.{lt-ltb, le-ltb, le-leb, lt-leb}
@@ -98,7 +98,8 @@ pub value-low : (t : NumType) {w : ℕ} → isSigned t ≡ true → w < 21474836
 unfolding value
 value-low t {w} e h = rw (e, lt-leb 2147483648 w h)
 
-pub value-high : (t : NumType) {w : ℕ} → isSigned t ≡ true → 2147483648 ≤ w → w < 4294967296 → value t w ≡ negℤ (pos (4294967296 - w))
+pub value-high : (t : NumType) {w : ℕ} → isSigned t ≡ true → 2147483648 ≤ w → w < 4294967296 →
+    value t w ≡ negℤ (pos (4294967296 - w))
 unfolding value
 value-high t {w} e h k = rw (e, le-leb 2147483648 w h) (sub-lt k)
 
@@ -199,7 +200,8 @@ zero-by Ceil false j = rw (zero-div (suc j), zero-mod (suc j))
 zero-by Round true j = rw (zero-div (suc j), zero-mod (suc j), lt-leb (suc j) 0 (omega arith))
 zero-by Round false j = rw (zero-div (suc j), zero-mod (suc j), lt-leb (suc j) 0 (omega arith))
 
-pub sgn-div : (r : Rounding) (s t : Bool) (m d : ℕ) → 0 < d → roundedDiv r (differ s t) m d ≡ quotient r (sgn s m) (sgn t d)
+pub sgn-div : (r : Rounding) (s t : Bool) (m d : ℕ) → 0 < d →
+    roundedDiv r (differ s t) m d ≡ quotient r (sgn s m) (sgn t d)
 unfolding quotient
 sgn-div r s t m zero h = absurd (not-suc-le-zero h)
 sgn-div r false false m (suc j) h = rw (eqb·suc-zero j)
@@ -214,7 +216,8 @@ unfolding quotient
 by-zero r a false = refl
 by-zero r a true = refl
 
-pub rounded-up : (r : Rounding) (n : Bool) (m d : ℕ) → away r n (m % d) d ≡ true → sgn n (m / d + 1) ≡ roundedDiv r n m d
+pub rounded-up : (r : Rounding) (n : Bool) (m d : ℕ) → away r n (m % d) d ≡ true →
+    sgn n (m / d + 1) ≡ roundedDiv r n m d
 unfolding roundedDiv
 rounded-up r n m d e = rw e
 

@@ -1,5 +1,5 @@
--- The marked examples P1 to P9, under one claim: what the definitions give is what the paper says, at every row. antt computes it.
--- Assumes nothing.
+-- The marked examples P1 to P9, under one claim: what the definitions give is what the paper says, at every row. antt
+-- computes it. Assumes nothing.
 use mathlib.Core.Path.{_≡_, refl}
 use mathlib.Core.List.{map}
 use Rattle.numbers.specs.Types.{value}

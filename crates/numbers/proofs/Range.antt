@@ -1,7 +1,7 @@
--- Integer ranges, once over the type. A result that the type holds is stored whole: the word's value is the result, and the word is
--- well formed; a result is Below exactly when it is below the type's least number, Above exactly when it is above the greatest. A
--- word is stored back as itself. By cases on the number's sign, and on the type only where its reach is compared with 2 ^ 31.
--- Assumes nothing.
+-- Integer ranges, once over the type. A result that the type holds is stored whole: the word's value is the result, and
+-- the word is well formed; a result is Below exactly when it is below the type's least number, Above exactly when it is
+-- above the greatest. A word is stored back as itself. By cases on the number's sign, and on the type only where its
+-- reach is compared with 2 ^ 31. Assumes nothing.
 use mathlib.Core.Path.{_≡_, refl, ap, _∙_, subst}
 use mathlib.Core.Bool.{Bool, true, false, cond, _&&_}
 use Prim.Native.Nat.{ℕ, suc, _-_, _^_, _≤_, _<_}
@@ -30,7 +30,8 @@ and-right true b e = e
 and-right false b e = let x : _≡_ {A = ℕ} 0 1 = cc in absurd (omega arith)
 
 -- what holds of the word, and of the word less 2 ^ 32 where it is at least 2 ^ 31, holds of its number
-by-word : (P : ℤ → Type 0) (t : NumType) (w : ℕ) → w < 4294967296 → P (pos w) → (2147483648 ≤ w → P (negℤ (pos (4294967296 - w)))) → P (value t w)
+by-word : (P : ℤ → Type 0) (t : NumType) (w : ℕ) → w < 4294967296 → P (pos w) →
+    (2147483648 ≤ w → P (negℤ (pos (4294967296 - w)))) → P (value t w)
 unfolding value
 by-word P t w h p q = pick (isSigned t && leb 2147483648 w) refl
   where
@@ -97,7 +98,11 @@ pub stored-word : (t : NumType) (z : ℤ) → lo t ≤ℤ z → z ≤ℤ hi t �
 unfolding inside
 stored-word t z l h =
     let e = word-value t z l h in
-    record { whole = e; formed = rw (e, is-true (leZ (lo t) z) (l .le), is-true (leZ z (hi t)) (h .le)); small = word-small t z h }
+    record {
+      whole = e;
+      formed = rw (e, is-true (leZ (lo t) z) (l .le), is-true (leZ z (hi t)) (h .le));
+      small = word-small t z h;
+    }
 
 -- ---- the three outcomes
 
@@ -133,7 +138,8 @@ placed : (t : NumType) (z : ℤ) → Place t z (settled t z)
 unfolding settled
 placed t z = pick (ltZ z (lo t)) (ltZ (hi t) z) refl refl
   where
-    pick : (a b : Bool) → ltZ z (lo t) ≡ a → ltZ (hi t) z ≡ b → Place t z (cond a Below (cond b Above (Value (wordOf z))))
+    pick : (a b : Bool) → ltZ z (lo t) ≡ a → ltZ (hi t) z ≡ b →
+        Place t z (cond a Below (cond b Above (Value (wordOf z))))
     pick true b p q = below (ltZ-yes (rw p tt))
     pick false true p q = above (ltZ-yes (rw q tt))
     pick false false p q = within (ltZ-no (rw p tt)) (ltZ-no (rw q tt))
@@ -160,7 +166,8 @@ settled-value t z w e = at w (subst (Place t z) e (placed t z))
     at w (within l h) = stored-word t z l h
 
 -- the same of a block's result
-pub outcome-value : (op : Op) (ta : NumType) (a : ℕ) (tb : NumType) (b : ℕ) (t : NumType) (w : ℕ) → outcome op ta a tb b t ≡ Value w → Stored t (exact op (value ta a) (value tb b)) w
+pub outcome-value : (op : Op) (ta : NumType) (a : ℕ) (tb : NumType) (b : ℕ) (t : NumType) (w : ℕ) →
+    outcome op ta a tb b t ≡ Value w → Stored t (exact op (value ta a) (value tb b)) w
 unfolding outcome
 outcome-value op ta a tb b t w e = settled-value t (exact op (value ta a) (value tb b)) w e
 

@@ -1,19 +1,22 @@
--- What the paper says of the three roundings, of the definition `quotient`: the sign of the divisor can be moved to the dividend, so that
--- the rest speaks of divisors above 0; floor is the library's division toward 0; ceil is the least whole number that is not below the
--- quotient; round is a nearest whole number, and of two that are equally near the one further from 0. By cases on the signs; what is
--- left is on magnitudes, m = m / d * d + m % d with m % d < d.
+-- What the paper says of the three roundings, of the definition `quotient`: the sign of the divisor can be moved to the
+-- dividend, so that the rest speaks of divisors above 0; floor is the library's division toward 0; ceil is the least
+-- whole number that is not below the quotient; round is a nearest whole number, and of two that are equally near the
+-- one further from 0. By cases on the signs; what is left is on magnitudes, m = m / d * d + m % d with m % d < d.
 -- Assumes nothing.
 use mathlib.Core.Path.{_≡_, refl, sym, ap, _∙_, subst}
 use mathlib.Core.Bool.{Bool, true, false, not, cond}
 use Prim.Native.Nat.{ℕ, zero, suc, _+_, _-_, _*_, _/_, _%_, _≤_, _<_}
-use native.Mathlib.Nat.{add-zero, add-suc, mul-suc, div-zero, div-add-mod', mod-lt, add-mul, one-mul, suc-mul, le-trans, mul-le-mul-right, lt-of-mul-lt-mul-right, div-mul-le-self, le-div-iff-mul-le, not-suc-le-zero, lt-of-not-le}
+use native.Mathlib.Nat.{add-zero, add-suc, mul-suc, div-zero, div-add-mod', mod-lt, add-mul, one-mul, suc-mul}
+use native.Mathlib.Nat.{le-trans, mul-le-mul-right, lt-of-mul-lt-mul-right, div-mul-le-self}
+use native.Mathlib.Nat.{le-div-iff-mul-le, not-suc-le-zero, lt-of-not-le}
 use native.Mathlib.Omega.{arith}
 use native.Mathlib.Decide.{decLe}
 use borrow.Author.Tests.{lt-ltb, le-ltb, le-leb, lt-leb}
 use lib.Dec.{ltb, leb, leb→le, le→leb, eqb·suc-zero}
 use lib.IntN.{ℤ, pos, negsuc, negℤ, natAbs, subℕ, _-ℤ_, _*ℤ_, negℤ-negℤ}
 use lib.Signed.{_≤ℤ_, quotZ}
-use Rattle.numbers.proofs.Laws.{sgn-div, by-zero, neg-le, neg-le-pos, neg-mul, pos-neg, neg-pos, neg-neg, sub-le, sub-lt, abs-sgn}
+use Rattle.numbers.proofs.Laws.{sgn-div, by-zero, neg-le, neg-le-pos, neg-mul, pos-neg, neg-pos, neg-neg}
+use Rattle.numbers.proofs.Laws.{sub-le, sub-lt, abs-sgn}
 use Rattle.numbers.specs.Types.{sgn}
 use Rattle.numbers.specs.Results.{roundedDiv, quotient}
 use Rattle.numbers.specs.declared.Rounding.{Rounding}
@@ -21,12 +24,17 @@ use Rattle.numbers.specs.declared.Rounding.the-variants.{Floor, Ceil, Ro
 
 -- ---- the sign of the divisor
 
-turn : (r : Rounding) (s t : Bool) (m d : ℕ) → quotient r (sgn s m) (sgn (not t) d) ≡ quotient r (sgn (not s) m) (sgn t d)
+turn : (r : Rounding) (s t : Bool) (m d : ℕ) →
+    quotient r (sgn s m) (sgn (not t) d) ≡ quotient r (sgn (not s) m) (sgn t d)
 turn r s t m zero = sym (by-zero r (sgn s m) (not t)) ∙ by-zero r (sgn (not s) m) t
-turn r false false m (suc d) = sym (sgn-div r false true m (suc d) (omega arith)) ∙ sgn-div r true false m (suc d) (omega arith)
-turn r false true m (suc d) = sym (sgn-div r false false m (suc d) (omega arith)) ∙ sgn-div r true true m (suc d) (omega arith)
-turn r true false m (suc d) = sym (sgn-div r true true m (suc d) (omega arith)) ∙ sgn-div r false false m (suc d) (omega arith)
-turn r true true m (suc d) = sym (sgn-div r true false m (suc d) (omega arith)) ∙ sgn-div r false true m (suc d) (omega arith)
+turn r false false m (suc d) =
+    sym (sgn-div r false true m (suc d) (omega arith)) ∙ sgn-div r true false m (suc d) (omega arith)
+turn r false true m (suc d) =
+    sym (sgn-div r false false m (suc d) (omega arith)) ∙ sgn-div r true true m (suc d) (omega arith)
+turn r true false m (suc d) =
+    sym (sgn-div r true true m (suc d) (omega arith)) ∙ sgn-div r false false m (suc d) (omega arith)
+turn r true true m (suc d) =
+    sym (sgn-div r true false m (suc d) (omega arith)) ∙ sgn-div r false true m (suc d) (omega arith)
 
 pub sign-moved : (r : Rounding) (a b : ℤ) → quotient r a (negℤ b) ≡ quotient r (negℤ a) b
 sign-moved r (pos m) (pos d) = turn r false false m d
@@ -85,7 +93,10 @@ ceil-not-below x zero h = absurd (not-suc-le-zero h)
 ceil-not-below (pos m) (suc d) h =
     record { le = rw (ceil-pos m d) (le→leb m (up m (suc d) * suc d) (up-reaches m (suc d) h)) }
 ceil-not-below (negsuc m) (suc d) h =
-    record { le = rw (ceil-neg m d, neg-mul (suc m / suc d) (suc d), neg-le (suc m) (suc m / suc d * suc d)) (le→leb (suc m / suc d * suc d) (suc m) (div-mul-le-self (suc m) (suc d))) }
+    record {
+      le = rw (ceil-neg m d, neg-mul (suc m / suc d) (suc d), neg-le (suc m) (suc m / suc d * suc d))
+          (le→leb (suc m / suc d * suc d) (suc m) (div-mul-le-self (suc m) (suc d)));
+    }
 
 -- and every whole number that is not below it is at least as large
 pub ceil-least : (x z : ℤ) (d : ℕ) → 0 < d → x ≤ℤ (z *ℤ pos d) → quotient Ceil x (pos d) ≤ℤ z
@@ -97,7 +108,10 @@ ceil-least (pos m) (negsuc k) (suc d) h t =
 ceil-least (negsuc m) (pos k) (suc d) h t = record { le = rw (ceil-neg m d, neg-le-pos (suc m / suc d) k) tt }
 ceil-least (negsuc m) (negsuc k) (suc d) h t =
     let g = leb→le (suc k * suc d) (suc m) (rw (neg-le (suc m) (suc k * suc d)) at (t .le)) in
-    record { le = rw (ceil-neg m d, neg-le (suc m / suc d) (suc k)) (le→leb (suc k) (suc m / suc d) (le-div-iff-mul-le h .1 g)) }
+    record {
+      le = rw (ceil-neg m d, neg-le (suc m / suc d) (suc k))
+          (le→leb (suc k) (suc m / suc d) (le-div-iff-mul-le h .1 g));
+    }
 
 -- ---- round goes to the nearest whole number, half away from 0
 
@@ -115,7 +129,8 @@ near-half : (m d : ℕ) → 0 < d → (2 * (near m d * d) ≤ 2 * m + d) × (2 *
 near-half m d h = pick (decLe d (2 * (m % d)))
   where
     pick : Dec (d ≤ 2 * (m % d)) → (2 * (near m d * d) ≤ 2 * m + d) × (2 * m < 2 * (near m d * d) + d)
-    pick (yes p) = rw (le-leb d (2 * (m % d)) p, add-mul (m / d) 1 d, one-mul d) (omega (arith, div-add-mod' m d, mod-lt m h))
+    pick (yes p) = rw (le-leb d (2 * (m % d)) p, add-mul (m / d) 1 d, one-mul d)
+        (omega (arith, div-add-mod' m d, mod-lt m h))
     pick (no n) =
         let q = lt-of-not-le n in
         rw (lt-leb d (2 * (m % d)) q, add-zero (m / d)) (omega (arith, div-add-mod' m d))
@@ -160,25 +175,31 @@ scaled false n d = refl
 scaled true n d = neg-mul n d
 
 -- how far the rounded quotient is off, in parts of d
-off : (s : Bool) (m d : ℕ) → 0 < d → natAbs (sgn s m -ℤ quotient Round (sgn s m) (pos d) *ℤ pos d) ≡ apart m (near m d * d)
+off : (s : Bool) (m d : ℕ) → 0 < d →
+    natAbs (sgn s m -ℤ quotient Round (sgn s m) (pos d) *ℤ pos d) ≡ apart m (near m d * d)
 off s m d h = rw (round-is s m d h, scaled s (near m d) d) (apart-same s m (near m d * d))
 
-nearest : (s t : Bool) (m k d : ℕ) → 0 < d → natAbs (sgn s m -ℤ quotient Round (sgn s m) (pos d) *ℤ pos d) ≤ natAbs (sgn s m -ℤ sgn t k *ℤ pos d)
+nearest : (s t : Bool) (m k d : ℕ) → 0 < d →
+    natAbs (sgn s m -ℤ quotient Round (sgn s m) (pos d) *ℤ pos d) ≤ natAbs (sgn s m -ℤ sgn t k *ℤ pos d)
 nearest s t m k d h = rw (off s m d h, scaled t k d) (le-trans (near-nearest m d k h) (apart-least s t m (k * d)))
 
 -- no whole number z is nearer to x / d than the rounded quotient is
-pub round-nearest : (x z : ℤ) (d : ℕ) → 0 < d → natAbs (x -ℤ quotient Round x (pos d) *ℤ pos d) ≤ natAbs (x -ℤ z *ℤ pos d)
+pub round-nearest : (x z : ℤ) (d : ℕ) → 0 < d →
+    natAbs (x -ℤ quotient Round x (pos d) *ℤ pos d) ≤ natAbs (x -ℤ z *ℤ pos d)
 round-nearest (pos m) (pos k) d h = nearest false false m k d h
 round-nearest (pos m) (negsuc k) d h = nearest false true m (suc k) d h
 round-nearest (negsuc m) (pos k) d h = nearest true false (suc m) k d h
 round-nearest (negsuc m) (negsuc k) d h = nearest true true (suc m) (suc k) d h
 
-half : (s : Bool) (m d : ℕ) → 0 < d → 2 * natAbs (sgn s m -ℤ quotient Round (sgn s m) (pos d) *ℤ pos d) ≡ d → m < natAbs (quotient Round (sgn s m) (pos d)) * d
+half : (s : Bool) (m d : ℕ) → 0 < d →
+    2 * natAbs (sgn s m -ℤ quotient Round (sgn s m) (pos d) *ℤ pos d) ≡ d →
+    m < natAbs (quotient Round (sgn s m) (pos d)) * d
 half s m d h e =
     let g : 2 * apart m (near m d * d) ≡ d = rw (off s m d h) at e in
     rw (round-is s m d h, abs-sgn s (near m d)) (omega (arith, near-half m d h))
 
 -- and where x / d is half way between two, the one further from 0 is taken
-pub round-half : (x : ℤ) (d : ℕ) → 0 < d → 2 * natAbs (x -ℤ quotient Round x (pos d) *ℤ pos d) ≡ d → natAbs x < natAbs (quotient Round x (pos d)) * d
+pub round-half : (x : ℤ) (d : ℕ) → 0 < d →
+    2 * natAbs (x -ℤ quotient Round x (pos d) *ℤ pos d) ≡ d → natAbs x < natAbs (quotient Round x (pos d)) * d
 round-half (pos m) d h e = half false m d h e
 round-half (negsuc m) d h e = half true (suc m) d h e

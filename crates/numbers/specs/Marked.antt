@@ -1,5 +1,5 @@
--- The marked examples P1 to P9, one row each: what the definitions give, and what the paper says. 01, "Marked examples".
--- Assumes nothing.
+-- The marked examples P1 to P9, one row each: what the definitions give, and what the paper says. 01, "Marked
+-- examples". Assumes nothing.
 use Prim.Native.Nat.{ℕ}
 use mathlib.Core.List.{List, [], _∷_}
 use lib.IntN.{ℤ, pos, negℤ}

@@ -1,7 +1,7 @@
--- The four number types, their ranges, and the word of 32 bits that stores a number.
--- ℤ is the library's (`lib.IntN`: `pos n` is n, `negsuc n` is -(n + 1), `natAbs` the magnitude, `subℕ m n` is m - n), `leZ` its
--- order (`lib.Signed`), `cond` is if-then-else. The types are those that 001, 4.16.1 to 4.19.1, allow: INT16, UINT16, INT32, UINT32.
--- Assumes nothing.
+-- The four number types, their ranges, and the word of 32 bits that stores a number. ℤ is the library's (`lib.IntN`:
+-- `pos n` is n, `negsuc n` is -(n + 1), `natAbs` the magnitude, `subℕ m n` is m - n), `leZ` its order (`lib.Signed`),
+-- `cond` is if-then-else. The types are those that 001, 4.16.1 to 4.19.1, allow: INT16, UINT16, INT32, UINT32. Assumes
+-- nothing.
 use Prim.Native.Nat.{ℕ, suc, _-_, _^_}
 use mathlib.Core.Bool.{Bool, true, false, cond, _&&_}
 use lib.Dec.{leb, eqb}
@@ -13,8 +13,8 @@ use Rattle.numbers.specs.declared.Signed.{Signed}
 
 -- ---- the types
 
--- The type that a byte of the file names: 0 INT16, 1 UINT16, 2 INT32, 3 UINT32. A number has no other, and the check of the file
--- turns those down, so what they read as is without effect. 01, "The case file".
+-- The type that a byte of the file names: 0 INT16, 1 UINT16, 2 INT32, 3 UINT32. A number has no other, and the check of
+-- the file turns those down, so what they read as is without effect. 01, "The case file".
 unfoldable pub typeOf : ℕ → NumType
 typeOf b = cond (eqb b 0) Int16 (cond (eqb b 1) Uint16 (cond (eqb b 2) Int32 Uint32))
 
@@ -53,7 +53,8 @@ hi t = pos (over t)
 unfoldable pub value : NumType → ℕ → ℤ
 value t w = cond (isSigned t && leb (2 ^ 31) w) (subℕ w (2 ^ 32)) (pos w)
 
--- Whether a word is well formed for its type: "inside its type" of 01, "Block state", and an input's value in 01, "The case file".
+-- Whether a word is well formed for its type: "inside its type" of 01, "Block state", and an input's value in 01, "The
+-- case file".
 unfoldable pub inside : NumType → ℕ → Bool
 inside t w = leZ (lo t) (value t w) && leZ (value t w) (hi t)
 

@@ -1,11 +1,13 @@
-// Exact arithmetic of the blocks ADD, SUB, MUL and DIV over the four number types: what two stored words give in an output of a type,
-// and the diagnosis and text ID of a result that the type does not hold. A number is held as sign and magnitude, so that the product
-// of two UINT32 fits; a stored word is 32 bits, sign- or zero-extended by its type.
+// Exact arithmetic of the blocks ADD, SUB, MUL and DIV over the four number types: what two stored words give in an
+// output of a type, and the diagnosis and text ID of a result that the type does not hold. A number is held as sign and
+// magnitude, so that the product of two UINT32 fits; a stored word is 32 bits, sign- or zero-extended by its type.
 ghost use mathlib.Core.Path.{_≡_};
 ghost use Prim.Native.Nat.{_^_, _<_};
 ghost use lib.IntN.{subℕ, _+ℤ_, _-ℤ_, _*ℤ_};
 ghost use Rattle.numbers.specs.Types.{isSigned, under, over, value, inside, typeOf, signed, zOf};
-ghost use Rattle.numbers.specs.Results.{differ, away, quotient, exact, settled, outcome, roundingOf, diagnosis, textOf};
+ghost use Rattle.numbers.specs.Results.{differ, away, quotient as quotientOf, settled, outcome};
+ghost use Rattle.numbers.specs.Results.{roundingOf, diagnosis, textOf};
+ghost use Rattle.numbers.specs.declared.Op.the-variants.{Add, Sub, Mul, Div};
 
 // The type of an input or an output.
 pub enum NumType {
@@ -193,7 +195,7 @@ fn goes_away(r: Rounding, neg: bool, left: u64, d: u64) -> bool
 // a by b, rounded; 0 where b is 0.
 fn divide(r: Rounding, a: Signed, b: Signed) -> Signed
     requires { ⌜ (a .mag < 2 ^ 32) × (b .mag < 2 ^ 32) ⌝ }
-    ensures { λ q. ⌜ zOf q ≡ quotient r (zOf a) (zOf b) ⌝ }
+    ensures { λ q. ⌜ zOf q ≡ quotientOf r (zOf a) (zOf b) ⌝ }
 {
     let d = b.mag;
     if d == 0 {
@@ -208,19 +210,6 @@ fn divide(r: Rounding, a: Signed, b: Signed) -> Signed
         }
     } else {
         Signed { neg, mag: m / d }
-    }
-}
-
-// The exact result of two numbers.
-fn apply(op: Op, a: Signed, b: Signed) -> Signed
-    requires { ⌜ (a .mag < 2 ^ 32) × (b .mag < 2 ^ 32) ⌝ }
-    ensures { λ r. ⌜ zOf r ≡ exact op (zOf a) (zOf b) ⌝ }
-{
-    match op {
-        Op::Add => plus(a, b),
-        Op::Sub => minus(a, b),
-        Op::Mul => times(a, b),
-        Op::Div(r) => divide(r, a, b),
     }
 }
 
@@ -256,13 +245,49 @@ pub fn fits(t: NumType, w: u32) -> bool
     }
 }
 
-// The block: the exact result of two words of their types, in an output of type t.
-pub fn compute(op: Op, ta: NumType, a: u32, tb: NumType, b: u32, t: NumType) -> Outcome
-    ensures { λ r. ⌜ r ≡ outcome op ta a tb b t ⌝ }
+// The four blocks: the exact result of two words of their types, in an output of type t.
+pub fn sum(ta: NumType, a: u32, tb: NumType, b: u32, t: NumType) -> Outcome
+    ensures { λ r. ⌜ r ≡ outcome Add ta a tb b t ⌝ }
 {
     let x = load(ta, a);
     let y = load(tb, b);
-    settle(t, apply(op, x, y))
+    settle(t, plus(x, y))
+}
+
+pub fn rest(ta: NumType, a: u32, tb: NumType, b: u32, t: NumType) -> Outcome
+    ensures { λ r. ⌜ r ≡ outcome Sub ta a tb b t ⌝ }
+{
+    let x = load(ta, a);
+    let y = load(tb, b);
+    settle(t, minus(x, y))
+}
+
+pub fn product(ta: NumType, a: u32, tb: NumType, b: u32, t: NumType) -> Outcome
+    ensures { λ r. ⌜ r ≡ outcome Mul ta a tb b t ⌝ }
+{
+    let x = load(ta, a);
+    let y = load(tb, b);
+    settle(t, times(x, y))
+}
+
+pub fn quotient(rounding: Rounding, ta: NumType, a: u32, tb: NumType, b: u32, t: NumType) -> Outcome
+    ensures { λ r. ⌜ r ≡ outcome (Div rounding) ta a tb b t ⌝ }
+{
+    let x = load(ta, a);
+    let y = load(tb, b);
+    settle(t, divide(rounding, x, y))
+}
+
+// The block of an operation.
+pub fn compute(op: Op, ta: NumType, a: u32, tb: NumType, b: u32, t: NumType) -> Outcome
+    ensures { λ r. ⌜ r ≡ outcome op ta a tb b t ⌝ }
+{
+    match op {
+        Op::Add => sum(ta, a, tb, b, t),
+        Op::Sub => rest(ta, a, tb, b, t),
+        Op::Mul => product(ta, a, tb, b, t),
+        Op::Div(rounding) => quotient(rounding, ta, a, tb, b, t),
+    }
 }
 
 // The type that a parameter byte names.

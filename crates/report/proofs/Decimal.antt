@@ -1,5 +1,6 @@
--- `decimal` is decimal notation and no other: reading it back gives the number, it is a numeral, and a numeral is the `decimal` of what it spells. Each law is by the
--- last digit: a number below 10 is one digit, any other is that of a tenth and its last digit.
+-- `decimal` is decimal notation and no other: reading it back gives the number, it is a numeral, and a numeral is the
+-- `decimal` of what it spells. Each law is by the last digit: a number below 10 is one digit, any other is that of a
+-- tenth and its last digit.
 -- Assumes nothing.
 use mathlib.Core.Path.{_≡_, refl, sym, ap, _∙_}
 use mathlib.Core.Bool.{true, false, true≢false}
@@ -31,7 +32,8 @@ same-at (suc a) zero n d p q = absurd (omega arith)
 same-at (suc a) (suc b) n (yes h) p q = within-small a n h ∙ sym (within-small b n h)
 same-at (suc a) (suc b) n (no h) p q =
     within-more a n (omega (arith, h))
-    ∙ ap (λ (s : List ℕ). s ++ (digit (n % 10) ∷ [])) (same-at a b (n / 10) (decLt (n / 10) 10) (omega (arith, h)) (omega (arith, h)))
+    ∙ ap (λ (s : List ℕ). s ++ (digit (n % 10) ∷ []))
+    (same-at a b (n / 10) (decLt (n / 10) 10) (omega (arith, h)) (omega (arith, h)))
     ∙ sym (within-more b n (omega (arith, h)))
 
 pub decimal-small : (n : ℕ) → n < 10 → decimal n ≡ digit n ∷ []
@@ -41,14 +43,17 @@ decimal-small n h = within-small n n h
 pub decimal-more : (n : ℕ) → 10 ≤ n → decimal n ≡ decimal (n / 10) ++ (digit (n % 10) ∷ [])
 unfolding decimal
 decimal-more n h =
-    within-more n n h ∙ ap (λ (s : List ℕ). s ++ (digit (n % 10) ∷ [])) (same-at n (suc (n / 10)) (n / 10) (decLt (n / 10) 10) (omega arith) (omega arith))
+    within-more n n h
+    ∙ ap (λ (s : List ℕ). s ++ (digit (n % 10) ∷ []))
+    (same-at n (suc (n / 10)) (n / 10) (decLt (n / 10) 10) (omega arith) (omega arith))
 
 -- what holds of one digit, and of a number where it holds of its tenth, holds of every number
 module _ (P : ℕ → Type 0) (small : (n : ℕ) → n < 10 → P n) (more : (n : ℕ) → 10 ≤ n → P (n / 10) → P n) where
   from-tenth : (fuel n : ℕ) → Dec (n < 10) → n < fuel → P n
   from-tenth zero n d h = absurd (omega arith)
   from-tenth (suc fuel) n (yes l) h = small n l
-  from-tenth (suc fuel) n (no l) h = more n (omega (arith, l)) (from-tenth fuel (n / 10) (decLt (n / 10) 10) (omega (arith, l)))
+  from-tenth (suc fuel) n (no l) h =
+      more n (omega (arith, l)) (from-tenth fuel (n / 10) (decLt (n / 10) 10) (omega (arith, l)))
 
   by-tenth : (n : ℕ) → P n
   by-tenth n = from-tenth (suc n) n (decLt n 10) (omega arith)
@@ -71,7 +76,10 @@ decimal-long (suc k) n p q =
     tenth n (omega arith) ∙ ap suc (decimal-long k (n / 10) (omega arith) (omega arith))
 
 pub decimal-some : (n : ℕ) → 1 ≤ length (decimal n)
-decimal-some = by-tenth (λ (n : ℕ). 1 ≤ length (decimal n)) (λ n h. omega (arith, decimal-one n h)) (λ n h e. omega (arith, tenth n h))
+decimal-some =
+    by-tenth (λ (n : ℕ). 1 ≤ length (decimal n))
+    (λ n h. omega (arith, decimal-one n h))
+    (λ n h e. omega (arith, tenth n h))
 
 -- a number below 10 ^ (k + 1) has at most k + 1 digits, so one of 32 bits at most 10
 most-at : (k n : ℕ) → Dec (n < 10) → n < 10 ^ suc k → length (decimal n) ≤ suc k
@@ -92,7 +100,8 @@ read-last v c (b ∷ cs) = read-last (10 * v + (b - 48)) c cs
 
 -- the digits of a number spell the number
 pub decimal-value : (n : ℕ) → valueOf (decimal n) ≡ n
-decimal-value = by-tenth (λ (n : ℕ). valueOf (decimal n) ≡ n) (λ n h. ap valueOf (decimal-small n h) ∙ omega arith) more-read
+decimal-value =
+    by-tenth (λ (n : ℕ). valueOf (decimal n) ≡ n) (λ n h. ap valueOf (decimal-small n h) ∙ omega arith) more-read
   where
     more-read : (n : ℕ) → 10 ≤ n → valueOf (decimal (n / 10)) ≡ n / 10 → valueOf (decimal n) ≡ n
     more-read n h e = ap valueOf (decimal-more n h) ∙ read-last 0 (digit (n % 10)) (decimal (n / 10)) ∙ omega arith
@@ -114,11 +123,13 @@ decimal-numeral = by-tenth (λ (n : ℕ). Numeral (decimal n)) one-digit more-di
   where
     one-digit : (n : ℕ) → n < 10 → Numeral (decimal n)
     one-digit zero h = rw (decimal-small 0 h) Numeral.nought
-    one-digit (suc n) h = rw (decimal-small (suc n) h) (Numeral.number {c = digit (suc n)} (omega arith) (omega arith) Digits.none)
+    one-digit (suc n) h =
+        rw (decimal-small (suc n) h) (Numeral.number {c = digit (suc n)} (omega arith) (omega arith) Digits.none)
 
     more-digits : (n : ℕ) → 10 ≤ n → Numeral (decimal (n / 10)) → Numeral (decimal n)
     more-digits n h e =
-        rw (decimal-more n h) (numeral-last (digit (n % 10)) e (rw (decimal-value (n / 10)) (omega arith)) (omega arith) (omega arith))
+        rw (decimal-more n h)
+        (numeral-last (digit (n % 10)) e (rw (decimal-value (n / 10)) (omega arith)) (omega arith) (omega arith))
 
 -- digits behind a number that is not 0 are the last digits of what is read with them
 read-on : (v : ℕ) {cs : List ℕ} → 1 ≤ v → Digits cs → decimal (readOn v cs) ≡ decimal v ++ cs

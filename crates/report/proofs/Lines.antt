@@ -1,4 +1,5 @@
--- How long a line is, and that a buffer which is long enough holds it. Every number of 32 bits has at most 10 digits, so that no line has more than 96 bytes.
+-- How long a line is, and that a buffer which is long enough holds it. Every number of 32 bits has at most 10 digits,
+-- so that no line has more than 96 bytes.
 -- Assumes nothing.
 use mathlib.Core.Path.{_≡_, refl}
 use mathlib.Core.List.{List}
@@ -42,5 +43,7 @@ pub line-front : (line buffer : List ℕ) → length line ≤ length buffer → 
 line-front line buffer h = take-sets line buffer (length line) refl h
 
 -- so whoever lends a buffer of 96 bytes finds the line whole in the bytes that the answer counts
-pub printed-whole : {line before after : List ℕ} {size : ℕ} → Printed line before after size → 96 ≤ length before → take size after ≡ line
-printed-whole {line} {before} {after} {size} p h = rw (p .bytes, p .whole) (line-front line before (omega (arith, p .whole, p .short)))
+pub printed-whole : {line before after : List ℕ} {size : ℕ} → Printed line before after size → 96 ≤ length before →
+    take size after ≡ line
+printed-whole {line} {before} {after} {size} p h =
+    rw (p .bytes, p .whole) (line-front line before (omega (arith, p .whole, p .short)))

@@ -1,4 +1,5 @@
--- The listing of 01 and lines at the types' limits, under one claim: what the definitions give is the text and a line feed, at every row. antt computes it.
+-- The listing of 01 and lines at the types' limits, under one claim: what the definitions give is the text and a line
+-- feed, at every row. antt computes it.
 -- Assumes nothing.
 use mathlib.Core.Path.{_≡_, refl}
 use mathlib.Core.List.{map, _++_}

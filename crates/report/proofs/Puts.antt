@@ -1,4 +1,5 @@
--- Text that is stored piece by piece: one piece behind another is one text, and a number's digits may be stored from the last to the first.
+-- Text that is stored piece by piece: one piece behind another is one text, and a number's digits may be stored from
+-- the last to the first.
 -- Assumes nothing.
 use mathlib.Core.Path.{_≡_, refl, sym, ap, _∙_}
 use mathlib.Core.List.{List, [], _∷_, _++_, append-nil}
@@ -15,14 +16,19 @@ use Rattle.report.proofs.Decimal.{decimal-small, decimal-more, decimal-
 -- ---- pieces
 
 -- a character, and the text behind it
-pub put-first : {text l m n : List ℕ} {at next : ℕ} (a : ℕ) → m ≡ set l at a → Put text m (at + 1) n next → Put (a ∷ text) l at n next
+pub put-first : {text l m n : List ℕ} {at next : ℕ} (a : ℕ) → m ≡ set l at a → Put text m (at + 1) n next →
+    Put (a ∷ text) l at n next
 put-first {text} {l} {m} {n} {at} a e p = record {
-  bytes = p .bytes ∙ ap (λ (x : List ℕ). sets x (at + 1) text) e ∙ ap (λ (k : ℕ). sets (set l at a) k text) (omega arith);
+  bytes =
+      p .bytes
+      ∙ ap (λ (x : List ℕ). sets x (at + 1) text) e
+      ∙ ap (λ (k : ℕ). sets (set l at a) k text) (omega arith);
   place = omega (arith, p .place);
 }
 
 -- two characters, and the text behind them
-pub put-second : {text l m n o : List ℕ} {at next : ℕ} (a b : ℕ) → m ≡ set l at a → n ≡ set m (at + 1) b → Put text n (at + 2) o next → Put (a ∷ b ∷ text) l at o next
+pub put-second : {text l m n o : List ℕ} {at next : ℕ} (a b : ℕ) → m ≡ set l at a → n ≡ set m (at + 1) b →
+    Put text n (at + 2) o next → Put (a ∷ b ∷ text) l at o next
 put-second {at = at} a b e f p = let two : at + 1 + 1 ≡ at + 2 = omega arith in put-first a e (put-first b f (rw two p))
 
 -- a text, and the text behind it
@@ -43,7 +49,11 @@ put-last a e = record { bytes = e; place = refl }
 
 -- a text at the front of a buffer is a line
 pub put-printed : {line l n : List ℕ} {size : ℕ} → length line ≤ 96 → Put line l 0 n size → Printed line l n size
-put-printed {line} h p = record { bytes = p .bytes; whole = p .place ∙ zero-add (length line); short = omega (arith, p .place) }
+put-printed {line} h p = record {
+  bytes = p .bytes;
+  whole = p .place ∙ zero-add (length line);
+  short = omega (arith, p .place);
+}
 
 -- ---- digits from the last to the first
 
@@ -56,7 +66,12 @@ pub record Behind (l : List ℕ) (at n : ℕ) (out : List ℕ) (to rest : ℕ) :
 
 -- nothing is stored
 pub behind-none : (l : List ℕ) (at n : ℕ) {k : ℕ} → k ≡ length (decimal n) → Behind l at n l (at + k) n
-behind-none l at n e = record { tail = []; whole = sym (append-nil (decimal n)); place = ap (λ (k : ℕ). at + k) e; bytes = refl }
+behind-none l at n e = record {
+  tail = [];
+  whole = sym (append-nil (decimal n));
+  place = ap (λ (k : ℕ). at + k) e;
+  bytes = refl;
+}
 
 module _ {l out : List ℕ} {at n to rest : ℕ} (b : Behind l at n out to rest) where
   -- the buffer is as long as it was
@@ -68,15 +83,22 @@ module _ {l out : List ℕ} {at n to rest : ℕ} (b : Behind l at n out to rest)
   behind-some = omega (arith, b .place, decimal-some rest)
 
   -- one digit more
-  pub behind-more : {out' : List ℕ} → 10 ≤ rest → out' ≡ set out (to - 1) (digit (rest % 10)) → Behind l at n out' (to - 1) (rest / 10)
+  pub behind-more : {out' : List ℕ} → 10 ≤ rest → out' ≡ set out (to - 1) (digit (rest % 10)) →
+      Behind l at n out' (to - 1) (rest / 10)
   behind-more h e =
       let d = digit (rest % 10) in
       let next : suc (to - 1) ≡ to = omega (arith, behind-some) in
       record {
         tail = d ∷ b .tail;
-        whole = b .whole ∙ ap (λ (s : List ℕ). s ++ b .tail) (decimal-more rest h) ∙ append-snoc (decimal (rest / 10)) d (b .tail);
+        whole =
+            b .whole
+            ∙ ap (λ (s : List ℕ). s ++ b .tail) (decimal-more rest h)
+            ∙ append-snoc (decimal (rest / 10)) d (b .tail);
         place = omega (arith, b .place, tenth rest h);
-        bytes = e ∙ rw (b .bytes) (set-sets-comm (b .tail) l (to - 1) to d (omega arith)) ∙ ap (λ (k : ℕ). sets (set l (to - 1) d) k (b .tail)) (sym next);
+        bytes =
+            e
+            ∙ rw (b .bytes) (set-sets-comm (b .tail) l (to - 1) to d (omega arith))
+            ∙ ap (λ (k : ℕ). sets (set l (to - 1) d) k (b .tail)) (sym next);
       }
 
   -- the first digit

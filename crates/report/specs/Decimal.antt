@@ -1,6 +1,7 @@
--- Numbers as text, in ASCII: `0` is 48, `9` is 57, `-` is 45. 01, "The trace program", prints a text ID "in decimal" and inputs "signed by type".
--- `decimal` says how a number is spelled; `valueOf` reads a spelling back, and `Numeral` says which spellings are decimal notation, so that proofs/Decimal can
--- prove that `decimal` is that notation and no other. `/` and `%` cut, `cond` is if-then-else, ℤ is `lib.IntN`'s: `pos n` is n, `negsuc n` is -(n + 1).
+-- Numbers as text, in ASCII: `0` is 48, `9` is 57, `-` is 45. 01, "The trace program", prints a text ID "in decimal"
+-- and inputs "signed by type". `decimal` says how a number is spelled; `valueOf` reads a spelling back, and `Numeral`
+-- says which spellings are decimal notation, so that proofs/Decimal can prove that `decimal` is that notation and no
+-- other. `/` and `%` cut, `cond` is if-then-else, ℤ is `lib.IntN`'s: `pos n` is n, `negsuc n` is -(n + 1).
 -- Assumes nothing.
 use Prim.Native.Nat.{ℕ, zero, suc, _+_, _-_, _*_, _/_, _%_, _≤_}
 use mathlib.Core.Bool.{cond}
@@ -12,7 +13,8 @@ use lib.IntN.{ℤ, pos, negsuc}
 abbrev pub digit : ℕ → ℕ
 digit d = 48 + d
 
--- general: the digits of n, of which there are at most `most`: a number below 10 is its one digit, any other has the digits of n / 10 and then its last
+-- general: the digits of n, of which there are at most `most`: a number below 10 is its one digit, any other has the
+-- digits of n / 10 and then its last
 unfoldable pub digitsWithin : ℕ → ℕ → List ℕ
 digitsWithin zero n = []
 digitsWithin (suc most) n =

@@ -1,5 +1,6 @@
--- The lines that the trace program prints. 01, "The trace program", has their words and numbers; DECISIONS 24: single spaces, a line feed after every line,
--- nothing else. Characters are in ASCII. A store of a run of bytes is the library's `sets` (`lib.Seq`): what lies past the end is not written.
+-- The lines that the trace program prints. 01, "The trace program", has their words and numbers; DECISIONS 24: single
+-- spaces, a line feed after every line, nothing else. Characters are in ASCII. A store of a run of bytes is the
+-- library's `sets` (`lib.Seq`): what lies past the end is not written.
 -- Assumes nothing.
 use mathlib.Core.Path.{_≡_}
 use Prim.Native.Nat.{ℕ, _+_, _≤_}
@@ -32,8 +33,8 @@ field s = 32 ∷ s
 abbrev pub lineFeed : List ℕ
 lineFeed = 10 ∷ []
 
--- 01, "The trace program": `finding`, cycle from 1, block, text ID in decimal, diagnosis, both inputs, signed by type. x and y are the inputs' stored words,
--- ta and tb their types.
+-- 01, "The trace program": `finding`, cycle from 1, block, text ID in decimal, diagnosis, both inputs, signed by type.
+-- x and y are the inputs' stored words, ta and tb their types.
 unfoldable pub findingLine : ℕ → ℕ → ℕ → ℕ → NumType → ℕ → NumType → ℕ → List ℕ
 findingLine cycle block text diagnosis ta x tb y =
     findingWord
@@ -53,8 +54,8 @@ endLine cycles findings = endWord ++ field (decimal cycles) ++ field (decimal fi
 unfoldable pub refusedLine : ℕ → List ℕ
 refusedLine number = refusedWord ++ field (decimal number) ++ lineFeed
 
--- general: a line was stored at the front of a buffer, and its length was told. That it is at most 96 bytes long follows from the line (proofs/Lines); it is said here so
--- that whoever lends a buffer of 96 bytes finds it.
+-- general: a line was stored at the front of a buffer, and its length was told. That it is at most 96 bytes long
+-- follows from the line (proofs/Lines); it is said here so that whoever lends a buffer of 96 bytes finds it.
 pub record Printed (line before after : List ℕ) (size : ℕ) : Type 0 where
   pub bytes : after ≡ sets before 0 line
   pub whole : size ≡ length line

@@ -1,4 +1,5 @@
--- Lines of the trace program, a row each: what the definitions give, and the line as it is read. 01, "The trace program", has the first two in its listing.
+-- Lines of the trace program, a row each: what the definitions give, and the line as it is read. 01, "The trace
+-- program", has the first two in its listing.
 -- Assumes nothing.
 use Prim.Native.Nat.{ℕ}
 use Prim.Native.Char.{code}
@@ -16,7 +17,8 @@ unfoldable pub codes : String → List ℕ
 codes String.[] = []
 codes (String._∷_ c s) = code c ∷ codes s
 
--- A row: the line that the definitions give, and the text that 01, "The trace program", asks for, without its line feed.
+-- A row: the line that the definitions give, and the text that 01, "The trace program", asks for, without its line
+-- feed.
 pub record Row : Type 0 where
   pub got : List ℕ
   pub want : String
@@ -29,13 +31,15 @@ is g w = record { got = g; want = w }
 unfoldable pub found : ℕ → ℕ → ℕ → ℕ → NumType → ℤ → NumType → ℤ → List ℕ
 found cycle block text diagnosis ta a tb b = findingLine cycle block text diagnosis ta (wordOf a) tb (wordOf b)
 
--- All rows. The first two are the listing of 01, "The trace program"; the others stand at the limits of the types and at 0.
+-- All rows. The first two are the listing of 01, "The trace program"; the others stand at the limits of the types and
+-- at 0.
 abbrev pub marked : List Row
 marked =
     is (found 2 0 16513 2 Int16 (pos 30000) Int16 (pos 2768)) "finding 2 0 16513 2 30000 2768"
     ∷ is (endLine 2 1) "end 2 1"
     ∷ is (found 1 63 16512 1 Int16 (negsuc 32767) Int16 (pos 1)) "finding 1 63 16512 1 -32768 1"
-    ∷ is (found 10 9 16512 1 Int32 (negsuc 2147483647) Uint32 (pos 4294967295)) "finding 10 9 16512 1 -2147483648 4294967295"
+    ∷ is (found 10 9 16512 1 Int32 (negsuc 2147483647) Uint32 (pos 4294967295))
+    "finding 10 9 16512 1 -2147483648 4294967295"
     ∷ is (found 100 10 16513 2 Uint16 (pos 65535) Int16 (negsuc 0)) "finding 100 10 16513 2 65535 -1"
     ∷ is (found 99 1 0 71 Uint32 (pos 15) Uint32 (pos 0)) "finding 99 1 0 71 15 0"
     ∷ is (endLine 0 0) "end 0 0"

@@ -1,5 +1,6 @@
-// The lines that the trace program prints, as bytes in a lent buffer: a finding, the end, a refusal. Each function stores its line at the front of the buffer and
-// answers the line's length. What lies past the end of the buffer is not stored; a buffer of 96 bytes takes every line whole.
+// The lines that the trace program prints, as bytes in a lent buffer: a finding, the end, a refusal. Each function
+// stores its line at the front of the buffer and answers the line's length. What lies past the end of the buffer is
+// not stored; a buffer of 96 bytes takes every line whole.
 ghost use mathlib.Core.Path.{_≡_};
 ghost use Prim.Native.Nat.{_+_, _≤_};
 ghost use Rattle.numbers.specs.Types.{value};
@@ -51,8 +52,8 @@ fn digit_count(n: u32) -> usize
     10
 }
 
-// A number in decimal, stored from `at` on: its last digit goes to the last place, and so on to the front. Answers the place behind it. All places are within a line,
-// so that no sum wraps.
+// A number in decimal, stored from `at` on: its last digit goes to the last place, and so on to the front. Answers the
+// place behind it. All places are within a line, so that no sum wraps.
 fn put_decimal(out: &mut [u8], at: usize, n: u32) -> usize
     requires { ⌜ at ≤ 98 ⌝ }
     ensures { λ r. ⌜ Put (decimal n) (now (out .entry)) at (now (out .exit)) r ⌝ }
@@ -108,7 +109,8 @@ pub fn finding_line(
     tb: NumType,
     y: u32,
 ) -> usize
-    ensures { λ r. ⌜ Printed (findingLine cycle block text diagnosis ta x tb y) (now (out .entry)) (now (out .exit)) r ⌝ }
+    ensures { λ r. ⌜ Printed (findingLine cycle block text diagnosis ta x tb y)
+        (now (out .entry)) (now (out .exit)) r ⌝ }
 {
     wire::put(out, 0, b"finding");
     let after_cycle = put_field(out, 7, cycle);

@@ -1,7 +1,8 @@
-// Prints the line of each record of standard input, so that a second source can be compared. A record has 20 bytes, numbers little endian: the kind of line
-// (0 a finding, 1 the end, any other a refusal), the block or the refusal's number, the types of the first input and the second (0 INT16, 1 UINT16, 2 INT32,
-// 3 UINT32), the text ID (2), the diagnosis (2), the cycle or the count of cycles (4), the first word or the count of findings (4), the second word (4). A record
-// that is broken off ends the run.
+// Prints the line of each record of standard input, so that a second source can be compared. A record has 20 bytes,
+// numbers little endian: the kind of line (0 a finding, 1 the end, any other a refusal), the block or the refusal's
+// number, the types of the first input and the second (0 INT16, 1 UINT16, 2 INT32, 3 UINT32), the text ID (2), the
+// diagnosis (2), the cycle or the count of cycles (4), the first word or the count of findings (4), the second word
+// (4). A record that is broken off ends the run.
 ghost use Prim.Native.Nat.{_≤_};
 use libc::STDIN_FILENO;
 use libc::STDOUT_FILENO;

@@ -1,4 +1,5 @@
-// The trace program: reads a case file from standard input and prints its trace (01, "The trace program"; the crate `tracer`).
+// The trace program: reads a case file from standard input and prints its trace (01, "The trace program"; the crate
+// `tracer`).
 use libc::STDIN_FILENO;
 
 fn main() {

@@ -1,48 +1,119 @@
--- What a fresh state that was written, or was not, says of its file. Assumes nothing.
-use mathlib.Core.Path.{_≡_, refl, sym, ap}
+-- What a fresh state that was written, or was not, says of its file, and what an accepted file's bodies and counts give
+-- to each call of a trace. Assumes nothing.
+use mathlib.Core.Path.{_≡_, refl, sym, ap, ap₂, _∙_}
 use mathlib.Core.Logic.{_≢_}
-use mathlib.Core.Bool.{Bool, true, false, true≢false}
+use mathlib.Core.Bool.{true}
 use mathlib.Core.List.{List}
-use Prim.Native.Nat.{ℕ, zero, suc}
+use Prim.Native.Nat.{ℕ, zero, suc, _/_, _<_}
+use native.Mathlib.Decide.{ℕ-discrete}
 use native.Mathlib.Omega.{arith}
-use lib.Dec.{eqb}
 use lib.ListN.{length}
-use borrow.Author.Tests.{eqb-true, eq-eqb}
-use Rattle.casefile.specs.declared.Verdict.the-variants.{Accepted}
-use Rattle.casefile.specs.Refusal.{verdict, numberOf}
-use Rattle.evaluator.specs.Answer.{stateLength, unless, orLater, freshFor}
-use Rattle.evaluator.specs.Fresh.{freshNumber, freshLeft}
-use Rattle.casefile.proofs.Accepted.{number-zero}
-use Rattle.evaluator.proofs.Calls.{later-number, later-rest, unless-held}
+use Rattle.wire.specs.Tables.{first}
+use Rattle.project.specs.declared.Counts.{Counts}
+use Rattle.project.specs.Project.{rowOf, groupCount, inputCount, recordSize}
+use Rattle.casefile.specs.Bodies.{projectOf, recordCount, recordOf}
+use Rattle.casefile.specs.Refusal.{fileTable}
+use Rattle.casefile.proofs.Refusals.{number-zero}
+use Rattle.casefile.proofs.Accepted.{accepted}
+use Rattle.evaluator.specs.State.{stateLength, findingsLength, stateFormed}
+use Rattle.evaluator.specs.Fresh.{freshNumber, freshLeft, freshFor}
+use Rattle.evaluator.specs.Asks.{Standing, Grouped, Ordered, Listed, Begun, countsIn, errorList}
+use Rattle.evaluator.proofs.Checking.{Taken, taken, groups-counted, blocks-counted, listed}
+use Rattle.evaluator.proofs.Checked.{standing, grouped, ordered}
+use Rattle.evaluator.proofs.FreshFormed.{fresh-refused, fresh-done}
 use Rattle.tracer.specs.declared.End.{End}
 use Rattle.tracer.specs.declared.End.the-variants.{Refused}
 use Rattle.tracer.specs.Traced.{unlessRefused, runEnd, endOf}
+use Rattle.tracer.specs.Asks.{Started}
 
-module _ (F S : List ℕ) (z : freshNumber F S ≡ 0) where
-  pub is-accepted : verdict F ≡ Accepted
-  unfolding freshNumber
-  is-accepted = number-zero (verdict F) (later-number (numberOf (verdict F)) _ z)
+-- ---- the fresh state
 
-  pub is-sized : length S ≡ stateLength F
-  unfolding freshNumber
-  is-sized = eqb-true (length S) (stateLength F) (unless-held (eqb (length S) (stateLength F)) 10 0 (omega arith) (later-rest (numberOf (verdict F)) _ z))
+unless-some : (n : ℕ) (e : End) → n ≢ 0 → Refused n ≡ unlessRefused n e
+unless-some zero e h = absurd (h refl)
+unless-some (suc n) e h = refl
 
-  pub is-fresh : freshLeft F S ≡ freshFor F
-  unfolding freshLeft
-  is-fresh = rw z
+module _ (F S : List ℕ) where
+  module _ (z : freshNumber F S ≡ 0) where
+    pub is-accepted : first (fileTable F) ≡ 0
+    is-accepted = go (ℕ-discrete (first (fileTable F)) 0)
+      where
+        go : Dec (first (fileTable F) ≡ 0) → first (fileTable F) ≡ 0
+        go (yes y) = y
+        go (no k) = fresh-refused F S _ refl k .0 ∙ z
 
--- the number of a state that was not written is the file's, where the state has the size of an accepted file's
-refused-first : (n x : ℕ) (t : Bool) (e : End) → (n ≡ 0 → t ≡ true) → x ≡ orLater n (unless t 10 0) → x ≢ 0 → Refused x ≡ unlessRefused n e
-refused-first zero x true e h p q = absurd (q p)
-refused-first zero x false e h p q = absurd (true≢false (sym (h refl)))
-refused-first (suc n) x t e h p q = ap Refused p
+    pub is-fresh : freshLeft F S ≡ freshFor (projectOf F)
+    unfolding freshLeft
+    is-fresh = rw z
 
-pub is-refused : (F S : List ℕ) (x : ℕ) → (verdict F ≡ Accepted → length S ≡ stateLength F) → x ≡ freshNumber F S → x ≢ 0 → Refused x ≡ endOf F
-unfolding freshNumber endOf
-is-refused F S x h p q =
-    refused-first (numberOf (verdict F)) x (eqb (length S) (stateLength F)) (runEnd F)
-    (λ z. eq-eqb (length S) (stateLength F) (h (number-zero (verdict F) z))) p q
+    pub is-run : runEnd F ≡ endOf F
+    unfolding endOf
+    is-run = rw is-accepted refl
 
-pub is-run : (F S : List ℕ) → freshNumber F S ≡ 0 → runEnd F ≡ endOf F
-unfolding freshNumber endOf
-is-run F S z = rw (later-number (numberOf (verdict F)) _ z) refl
+  -- the number of a state that was not written is the file's, where the state has the size of an accepted file's
+  pub is-refused : (x : ℕ) →
+      (first (fileTable F) ≡ 0 → length S ≡ stateLength (projectOf F .groups) (projectOf F .blocks)) →
+      x ≡ freshNumber F S → x ≢ 0 → Refused x ≡ endOf F
+  unfolding endOf
+  is-refused x h p q = go (ℕ-discrete (first (fileTable F)) 0)
+    where
+      go : Dec (first (fileTable F) ≡ 0) → Refused x ≡ unlessRefused (first (fileTable F)) (runEnd F)
+      go (yes z) = absurd (q (p ∙ sym (fresh-done F S z _ refl (freshFor (projectOf F)) (h z) refl .0)))
+      go (no k) = ap Refused (p ∙ sym (fresh-refused F S _ refl k .0)) ∙ unless-some _ (runEnd F) k
+
+-- ---- an accepted file
+
+pub taken-of : (F : List ℕ) → first (fileTable F) ≡ 0 → Taken (projectOf F)
+taken-of F z = taken F (accepted F (number-zero F z))
+
+pub ordered-of : (F : List ℕ) (c : Counts) (B : List ℕ) → first (fileTable F) ≡ 0 → c ≡ countsIn (projectOf F) →
+    B ≡ projectOf F .blocks → Ordered B (c .blocks)
+ordered-of F c B z e b =
+    let t = taken-of F z in
+    rw b (ordered (t .sound) (groups-counted e t) (blocks-counted e t))
+
+module _ {F : List ℕ} {c : Counts} {G I B T K D : List ℕ} (s : Started F c G I B T K D) where
+  t : Taken (projectOf F)
+  t = taken-of F (s .accepted)
+
+  heads : c .groups ≡ groupCount (projectOf F .groups)
+  heads = groups-counted (s .counts) t
+
+  pub standing-of : (S : List ℕ) → length S ≡ stateLength (projectOf F .groups) (projectOf F .blocks) →
+      Standing B S (c .groups)
+  standing-of S l = rw (s .blocks) (standing (t .sound) heads (blocks-counted (s .counts) t) S l)
+
+  pub grouped-of : Grouped B (c .blocks)
+  grouped-of = rw (s .blocks) (grouped (t .sound) heads (blocks-counted (s .counts) t))
+
+  counted : Listed c (projectOf F .groups) (projectOf F .inputs)
+  counted = listed (s .counts) t
+
+  pub listed-of : Listed c G I
+  listed-of = rw (s .groups, s .inputs) counted
+
+  pub begun-of : (E S D : List ℕ) → E ≡ errorList (c .groups) B S →
+      length S ≡ stateLength (projectOf F .groups) (projectOf F .blocks) →
+      stateFormed (projectOf F .groups) (projectOf F .blocks) S ≡ true →
+      length D ≡ findingsLength (projectOf F .blocks) → Begun c (inputCount I) G B K E S D
+  begun-of E S D e l f d = record {
+    sound = rw (s .groups, s .inputs, s .blocks) (t .sound);
+    groups = heads ∙ ap groupCount (sym (s .groups));
+    blocks = rw (s .blocks) (blocks-counted (s .counts) t);
+    order = s .order;
+    errors = e ∙ ap (λ (h : ℕ). errorList h B S) (heads ∙ ap groupCount (sym (s .groups)));
+    size = rw (s .groups, s .blocks) l;
+    formed = rw (s .groups, s .blocks) f;
+    room = rw (s .blocks) d;
+  }
+
+  pub size-some : 0 < c .size
+  unfolding recordSize
+  size-some = omega (arith, counted .size)
+
+  pub count-is : length T / c .size ≡ recordCount F
+  unfolding recordCount projectOf
+  count-is = ap₂ (λ (n w : ℕ). n / w) (ap length (s .records)) (counted .size)
+
+  pub record-is : (k : ℕ) → rowOf (c .size) k T ≡ recordOf F k
+  unfolding recordOf projectOf
+  record-is k = ap₂ (λ (w : ℕ) (x : List ℕ). rowOf w k x) (counted .size) (s .records)

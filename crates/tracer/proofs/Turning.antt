@@ -1,87 +1,171 @@
--- The turns of a trace: a good record takes the state on to the next cycle's, and another ends the trace with the state as it was. Assumes nothing.
+-- The turns of a trace: before each, the calls that are left are a run from what the last one left; a record that is
+-- taken goes on with the next, and another ends the trace. Assumes nothing.
 use mathlib.Core.Path.{_≡_, refl, sym, ap, ap₂, _∙_}
 use mathlib.Core.Bool.{Bool, true, false, cond}
-use mathlib.Core.List.{List}
-use Prim.Native.Nat.{ℕ, _+_, _%_, _≤_, _<_}
-use native.Mathlib.Numerals.{add-one}
+use mathlib.Core.List.{List, [], _∷_}
+use Prim.Native.Nat.{ℕ, suc, _+_, _-_, _%_, _≤_, _<_}
+use native.Mathlib.Nat.{sub-zero}
 use native.Mathlib.Omega.{arith}
-use Rattle.wire.specs.Places.{firstBad}
-use Rattle.wire.proofs.Places.{all-ok, all-bad}
-use Rattle.casefile.specs.declared.Layout.{Layout}
-use Rattle.casefile.specs.Layout.{recordCount, recordOf, layoutOf}
+use lib.ListN.{length, drop, length-replicate}
+use lib.Seq.{drop-drop}
+use Rattle.wire.specs.Tables.{first}
+use Rattle.casefile.specs.Bodies.{projectOf, recordCount, recordOf}
+use Rattle.casefile.specs.Refusal.{fileTable}
+use Rattle.evaluator.specs.declared.Answer.{Answer}
 use Rattle.evaluator.specs.declared.Answer.the-variants.{Findings, Refused}
-use Rattle.evaluator.specs.Answer.{recordOk, freshFor}
+use Rattle.evaluator.specs.State.{outputsLength, findingsLength, stateFormed}
 use Rattle.evaluator.specs.Cycle.{findingCount, newFindings}
+use Rattle.evaluator.specs.Answer.{Lent, Left, recordOk, sizesOk, cycleOf}
+use Rattle.evaluator.specs.Runs.{run}
+use Rattle.evaluator.specs.Fresh.{freshFor}
 use Rattle.evaluator.specs.Steps.{stepAnswer, stepState, stepFindings}
+use Rattle.evaluator.proofs.FreshFormed.{fresh-length, fresh-state-formed}
+use Rattle.evaluator.proofs.Stepping.{Stepped, stepped, sizes-of}
+use Rattle.tracer.specs.declared.End.{End}
 use Rattle.tracer.specs.declared.End.the-variants.{Refused as Halted, Ran}
-use Rattle.tracer.specs.Traced.{takes, stateBefore, stateAfter, foundBefore, runEnd}
+use Rattle.tracer.specs.Traced.{recordsFrom, freshLent, calls, goesOn, ended, runEnd, lastState, stateAfter}
+use Rattle.tracer.proofs.Starting.{taken-of}
 
-answers-taken : (b : Bool) (m : ℕ) {n : ℕ} → Findings n ≡ cond b (Findings m) (Refused 12) → b ≡ true
-answers-taken true m e = refl
-answers-taken false m e = let z : _≡_ {A = ℕ} 0 1 = cc in absurd (omega arith)
+-- before cycle k of n, with the state S and the count of findings t so far
+pub record Here (F : List ℕ) (n k t : ℕ) (S : List ℕ) : Type 0 where
+  pub lent : Lent
+  pub state : S ≡ lent .state
+  pub sizes : sizesOk (projectOf F) lent ≡ true
+  pub formed : stateFormed (projectOf F .groups) (projectOf F .blocks) (lent .state) ≡ true
+  pub left : drop k (calls F) ≡ run F (recordsFrom F k (n - k)) lent
+  pub found : ℕ
+  pub count : t ≡ found % 4294967296
+  pub ends : ended k found (drop k (calls F)) ≡ runEnd F
+  pub last : lastState (lent .state) (drop k (calls F)) ≡ stateAfter F
 
-answers-refused : (b : Bool) (m : ℕ) {n : ℕ} → Refused n ≡ cond b (Findings m) (Refused 12) → b ≡ false
-answers-refused true m e = let z : _≡_ {A = ℕ} 0 1 = cc in absurd (omega arith)
-answers-refused false m e = refl
+pub formed-here : {F : List ℕ} {n k t : ℕ} {S : List ℕ} → Here F n k t S →
+    stateFormed (projectOf F .groups) (projectOf F .blocks) S ≡ true
+formed-here h = rw (h .state) (h .formed)
 
-answers-count : (b : Bool) (m : ℕ) {n : ℕ} → Findings n ≡ cond b (Findings m) (Refused 12) → n ≡ m
-answers-count true m e = cc
-answers-count false m e = let z : _≡_ {A = ℕ} 0 1 = cc in absurd (omega arith)
+-- at the start
+pub begins : (F : List ℕ) (n : ℕ) {S : List ℕ} → first (fileTable F) ≡ 0 → n ≡ recordCount F →
+    S ≡ freshFor (projectOf F) → Here F n 0 0 S
+unfolding freshLent calls runEnd stateAfter
+begins F n z e s =
+    let P = projectOf F in
+    record {
+      lent = freshLent F;
+      state = s;
+      sizes =
+          sizes-of P (freshLent F) (fresh-length P) (length-replicate {A = ℕ} (outputsLength (P .outputs)) 0)
+          (length-replicate {A = ℕ} (findingsLength (P .blocks)) 0);
+      formed = fresh-state-formed P (taken-of F z .sound);
+      left = ap (λ (m : ℕ). run F (recordsFrom F 0 m) (freshLent F)) (sym (sub-zero n ∙ e));
+      found = 0;
+      count = refl;
+      ends = refl;
+      last = refl;
+    }
 
-pub at-first : (F : List ℕ) → freshFor F ≡ stateBefore F 0
-unfolding stateBefore
-at-first F = refl
+-- after the last
+pub ran : {F : List ℕ} {n k t : ℕ} {S : List ℕ} → Here F n k t S → n ≤ k → {x y : ℕ} → x ≡ k % 4294967296 →
+    y ≡ t → (Ran x y ≡ runEnd F) × (S ≡ stateAfter F)
+unfolding ended lastState run recordsFrom
+ran {F} {n} {k} h l f g = (
+  ap₂ Ran f (g ∙ h .count) ∙ sym (ap (ended k (h .found)) none) ∙ h .ends,
+  h .state ∙ sym (ap (lastState (h .lent .state)) none) ∙ h .last,
+)
+  where
+    none : drop k (calls F) ≡ []
+    none =
+        let no : n - k ≡ 0 = omega arith in
+        h .left ∙ ap (λ (m : ℕ). run F (recordsFrom F k m) (h .lent)) no
 
-pub none-found : (F : List ℕ) → 0 ≡ foundBefore F 0 % 4294967296
-unfolding foundBefore
-none-found F = refl
+-- the number with which a step turns a record down
+down : (b : Bool) (m : ℕ) {n : ℕ} → Refused n ≡ cond b (Findings m) (Refused 12) → 12 ≡ n
+down true m e = let z : _≡_ {A = ℕ} 0 1 = cc in absurd (omega arith)
+down false m e = cc
 
--- S is the state before cycle k, and R the record of cycle k
-module _ (F : List ℕ) (k : ℕ) {S R : List ℕ} (s : S ≡ stateBefore F k) (r : R ≡ recordOf F k) where
-  pub turn : stepState F R S ≡ stateBefore F (k + 1)
-  unfolding stateBefore
-  turn = rw (add-one k, s, r)
+found-some : (b : Bool) (m : ℕ) {n : ℕ} → Findings n ≡ cond b (Findings m) (Refused 12) →
+    (X D Y : List ℕ) → cond b X D ≡ cond b X Y
+found-some true m e X D Y = refl
+found-some false m e X D Y = let z : _≡_ {A = ℕ} 0 1 = cc in absurd (omega arith)
 
-  pub taken : {n : ℕ} → Findings n ≡ stepAnswer F R S → takes F k ≡ true
-  unfolding stepAnswer takes
-  taken e = ap (recordOk F) (sym r) ∙ answers-taken (recordOk F R) (findingCount F R S) e
+-- the call of cycle k, and what comes after it, where L is lent to it
+abbrev pub call : List ℕ → ℕ → Lent → Left
+call F k L = cycleOf F (recordOf F k) L
 
-  pub counted : {n : ℕ} → Findings n ≡ stepAnswer F R S → n ≡ findingCount F (recordOf F k) (stateBefore F k)
-  unfolding stepAnswer
-  counted e = answers-count (recordOk F R) (findingCount F R S) e ∙ ap₂ (findingCount F) r s
+abbrev pub later : List ℕ → ℕ → ℕ → Lent → List Left
+later F n k L = run F (recordsFrom F (k + 1) (n - (k + 1))) (call F k L .lent)
 
-  pub counted-on : {n t : ℕ} → n ≡ findingCount F (recordOf F k) (stateBefore F k) → t ≡ foundBefore F k % 4294967296 →
-      (t + n) % 4294967296 ≡ foundBefore F (k + 1) % 4294967296
-  unfolding foundBefore
-  counted-on e f = rw (add-one k, ← e) (omega arith)
+-- a step answered a, and left the state S and the findings D: what the call l does
+pub record Turned (l : Left) (a : Answer) (S D : List ℕ) : Type 0 where
+  pub answer : a ≡ l .answer
+  pub state : S ≡ l .lent .state
+  pub findings : {m : ℕ} → a ≡ Findings m → D ≡ l .lent .findings
+  pub number : {m : ℕ} → a ≡ Refused m → 12 ≡ m
 
-  pub listed : (D : List ℕ) → takes F k ≡ true → stepFindings F R S D ≡ newFindings F (recordOf F k) (stateBefore F k)
-  unfolding stepFindings takes
-  listed D h = rw (ap (recordOk F) r ∙ h) (ap₂ (newFindings F) r s)
+-- cycle k
+module _ {F : List ℕ} {n k t : ℕ} {S : List ℕ} (z : first (fileTable F) ≡ 0) (h : Here F n k t S) where
+  made : Stepped (projectOf F) (recordOf F k) (h .lent) (call F k (h .lent))
+  made = stepped F (recordOf F k) (h .lent) z (h .sizes) (h .formed)
 
-  pub refused : {n : ℕ} → Refused n ≡ stepAnswer F R S → takes F k ≡ false
-  unfolding stepAnswer takes
-  refused e = ap (recordOk F) (sym r) ∙ answers-refused (recordOk F R) (findingCount F R S) e
+  -- by a step over bodies and a record that are the file's
+  pub turned : {G I B R : List ℕ} → G ≡ projectOf F .groups → I ≡ projectOf F .inputs → B ≡ projectOf F .blocks →
+      R ≡ recordOf F k → {a : Answer} {S1 D1 : List ℕ} (D : List ℕ) → a ≡ stepAnswer G I B R S →
+      S1 ≡ stepState G I B R S → D1 ≡ stepFindings G I B R S D → Turned (call F k (h .lent)) a S1 D1
+  unfolding stepAnswer stepFindings
+  turned {G} {I} {B} {R} g i b r D e s d = record {
+    answer = e ∙ (λ j. stepAnswer (g j) (i j) (b j) (r j) (h .state j)) ∙ sym (made .answer);
+    state = s ∙ (λ j. stepState (g j) (i j) (b j) (r j) (h .state j)) ∙ sym (made .state);
+    findings = λ y.
+        d ∙ found-some (recordOk G I R) (findingCount G B R S) (sym y ∙ e) (newFindings G B R S) D (h .lent .findings)
+        ∙ (λ j. stepFindings (g j) (i j) (b j) (r j) (h .state j) (h .lent .findings)) ∙ sym (made .findings);
+    number = λ y. down (recordOk G I R) (findingCount G B R S) (sym y ∙ e);
+  }
 
-  pub stopped : takes F k ≡ false → stepState F R S ≡ stateBefore F k
-  unfolding stepState takes
-  stopped h = rw (ap (recordOk F) r ∙ h) s
+module _ {F : List ℕ} {n k t : ℕ} {S : List ℕ} (h : Here F n k t S) (l : k < n) where
+  pub unrolled : drop k (calls F) ≡ call F k (h .lent) ∷ later F n k (h .lent)
+  unfolding run recordsFrom
+  unrolled =
+      let one : n - k ≡ suc (n - (k + 1)) = omega arith in
+      h .left ∙ ap (λ (m : ℕ). run F (recordsFrom F k m) (h .lent)) one
 
--- k is the place at which the loop over the n records of a layout stops
-pub ended : (F : List ℕ) {l : Layout} → l ≡ layoutOf F → {n k : ℕ} → n ≡ l .records → k ≡ firstBad (takes F) n →
-    stateBefore F k ≡ stateAfter F
-unfolding stateAfter layoutOf
-ended F e c q = ap (stateBefore F) (q ∙ ap (firstBad (takes F)) (c ∙ ap (λ (x : Layout). x .records) e))
+  rest : drop (k + 1) (calls F) ≡ later F n k (h .lent)
+  rest = sym (drop-drop 1 k (calls F)) ∙ ap (drop 1) unrolled
 
--- how it ends, by what the loop counted: done cycles of n, and their findings
-module _ (F : List ℕ) {l : Layout} (e : l ≡ layoutOf F) {n k : ℕ} (c : n ≡ l .records) (q : k ≡ firstBad (takes F) n) where
-  pub ran : n ≤ k → k ≤ n → {x y : ℕ} → x ≡ k % 4294967296 → y ≡ foundBefore F k % 4294967296 → Ran x y ≡ runEnd F
-  unfolding runEnd layoutOf
-  ran a b {x} {y} f g =
-      let m : k ≡ n = omega arith in
-      let h : n ≡ recordCount F = c ∙ ap (λ (z : Layout). z .records) e in
-      rw (all-ok (takes F) h q m, sym (m ∙ h), f, g) refl
+  abbrev now-left : List ℕ
+  now-left = call F k (h .lent) .lent .state
 
-  pub halted : k < n → Halted 12 ≡ runEnd F
-  unfolding runEnd layoutOf
-  halted a = rw (all-bad (takes F) (c ∙ ap (λ (z : Layout). z .records) e) q (λ z. omega arith)) refl
+  -- what the trace ends with, where the call answers a
+  abbrev end-by : Answer → End
+  end-by a = goesOn a Halted (λ x. ended (k + 1) (h .found + x) (later F n k (h .lent)))
+
+  abbrev state-by : Answer → List ℕ
+  state-by a = goesOn a (λ _. now-left) (λ _. lastState now-left (later F n k (h .lent)))
+
+  ends-by : {a : Answer} → a ≡ call F k (h .lent) .answer → end-by a ≡ runEnd F
+  unfolding ended
+  ends-by e = ap end-by e ∙ sym (ap (ended k (h .found)) unrolled) ∙ h .ends
+
+  leaves-by : {a : Answer} → a ≡ call F k (h .lent) .answer → state-by a ≡ stateAfter F
+  unfolding lastState
+  leaves-by e = ap state-by e ∙ sym (ap (lastState (h .lent .state)) unrolled) ∙ h .last
+
+  -- a record that is taken
+  pub goes-on : first (fileTable F) ≡ 0 → {a : Answer} {m : ℕ} {S1 D1 : List ℕ} → a ≡ Findings m →
+      Turned (call F k (h .lent)) a S1 D1 → Here F n (k + 1) ((t + m) % 4294967296) S1
+  goes-on z {a} {m} e u = record {
+    lent = call F k (h .lent) .lent;
+    state = u .state;
+    sizes = made z h .sizes;
+    formed = made z h .formed;
+    left = rest;
+    found = h .found + m;
+    count = omega (arith, h .count);
+    ends = ap (ended (k + 1) (h .found + m)) rest ∙ ends-by (sym e ∙ u .answer);
+    last = ap (lastState now-left) rest ∙ leaves-by (sym e ∙ u .answer);
+  }
+
+  -- one that is turned down
+  pub stops : {a : Answer} {m : ℕ} {S1 D1 : List ℕ} → a ≡ Refused m → Turned (call F k (h .lent)) a S1 D1 →
+      (Halted 12 ≡ runEnd F) × (S1 ≡ stateAfter F)
+  stops e u = (
+    ap Halted (u .number e) ∙ ends-by (sym e ∙ u .answer),
+    u .state ∙ leaves-by (sym e ∙ u .answer),
+  )

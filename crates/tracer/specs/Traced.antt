@@ -1,72 +1,79 @@
--- What running a trace asks: an accepted file, its layout, its groups, inputs, blocks and records, the blocks by execution number, a well-formed state and room for the findings
--- (01, "The trace program": it starts fresh); and what it runs: the file's records, each once and in their order.
-use Prim.Native.Nat.{ℕ, zero, suc, _+_, _*_, _%_, _≤_}
+-- What a trace is (01, "The trace program"): a run of cycle calls over the records of the file, each once and in their
+-- order, from the fresh state, up to the first record that is turned down. F is the file.
+use Prim.Native.Nat.{ℕ, zero, suc, _+_, _%_}
 use mathlib.Core.Path.{_≡_}
-use mathlib.Core.Bool.{Bool, true, cond}
-use mathlib.Core.List.{List}
-use lib.ListN.{length}
-use Rattle.casefile.specs.declared.Layout.{Layout}
-use Rattle.wire.specs.Places.{firstBad, all}
-use Rattle.casefile.specs.Layout.{bodyG, bodyI, bodyB, bodyT, bodyOf, recordCount, recordOf, layoutOf}
-use Rattle.casefile.specs.declared.Verdict.the-variants.{Accepted}
-use Rattle.casefile.specs.Refusal.{verdict, numberOf}
-use Rattle.evaluator.specs.Answer.{stateLength, findingsLength, stateOk, recordOk, freshFor}
-use Rattle.evaluator.specs.Cycle.{findingCount, newFindings}
-use Rattle.evaluator.specs.Fits.{orderList}
+use mathlib.Core.List.{List, [], _∷_}
+use lib.ListN.{drop, replicate}
+use Rattle.wire.specs.Tables.{first}
+use Rattle.casefile.specs.Bodies.{projectOf, recordCount, recordOf}
+use Rattle.casefile.specs.Refusal.{fileTable}
+use Rattle.evaluator.specs.State.{outputsLength, findingsLength}
+use Rattle.evaluator.specs.Answer.{Lent, Left, lends}
+use Rattle.evaluator.specs.Runs.{run}
+use Rattle.evaluator.specs.Fresh.{freshFor}
+use Rattle.evaluator.specs.declared.Answer.{Answer}
+use Rattle.evaluator.specs.declared.Answer.the-variants.{Findings, Refused}
 use Rattle.tracer.specs.declared.End.{End}
-use Rattle.tracer.specs.declared.End.the-variants.{Refused, Ran}
-use Rattle.evaluator.specs.Steps.{Taken, stepState}
+use Rattle.tracer.specs.declared.End.the-variants.{Refused as Halted, Ran}
 
-pub record Started (F : List ℕ) (l : Layout) (G I B T K S D : List ℕ) : Type 0 where
-  pub taken : Taken F l
-  pub groups : G ≡ bodyOf F bodyG
-  pub inputs : I ≡ bodyOf F bodyI
-  pub blocks : B ≡ bodyOf F bodyB
-  pub records : T ≡ bodyOf F bodyT
-  pub order : K ≡ orderList F
-  pub size : length S ≡ stateLength F
-  pub formed : stateOk F S ≡ true
-  pub room : length D ≡ findingsLength F
+-- ---- the run
 
--- 01, "Turned down", Sizes: a file's layout, a state of an accepted file's size, and room for the findings of up to 64 blocks
-pub record Offered (F : List ℕ) (l : Layout) (S D : List ℕ) : Type 0 where
-  pub layout : l ≡ layoutOf F
-  pub size : verdict F ≡ Accepted → length S ≡ stateLength F
-  pub room : l .blocks ≤ 64 → length D ≡ 16 * l .blocks
+-- 01, "The trace program": m records of the file, from record k on
+unfoldable pub recordsFrom : List ℕ → ℕ → ℕ → List (List ℕ)
+recordsFrom F k zero = []
+recordsFrom F k (suc m) = recordOf F k ∷ recordsFrom F (k + 1) m
 
--- 01, "The trace program": whether record k is a good one
-unfoldable pub takes : List ℕ → ℕ → Bool
-takes F k = recordOk F (recordOf F k)
+-- 01, "The trace program": it starts fresh; the outputs and the findings are zeros
+unfoldable pub freshLent : List ℕ → Lent
+freshLent F =
+    lends (freshFor (projectOf F)) (replicate (outputsLength (projectOf F .outputs)) 0)
+    (replicate (findingsLength (projectOf F .blocks)) 0)
 
--- 01, "The trace program": the state before cycle k, from the fresh one: a step for each record before record k, in their order
-unfoldable pub stateBefore : List ℕ → ℕ → List ℕ
-stateBefore F zero = freshFor F
-stateBefore F (suc k) = stepState F (recordOf F k) (stateBefore F k)
+-- 01, "The trace program": what each call answers and leaves, of all cycles
+unfoldable pub calls : List ℕ → List Left
+calls F = run F (recordsFrom F 0 (recordCount F)) (freshLent F)
 
--- 01, "The trace program": the state that a trace ends with. It runs every record, or those before the first that is turned down
+-- ---- how it ends
+
+-- 01, "The trace program": a call that was turned down with the number m ends the trace; after one that found k it goes
+-- on
+abbrev pub goesOn : {A : Type 0} → Answer → (ℕ → A) → (ℕ → A) → A
+goesOn (Findings k) ends on = on k
+goesOn (Refused m) ends on = ends m
+
+-- 01, "The trace program": the last line has the counts of cycles and findings, or says that a record was turned down.
+-- The calls come after c cycles with n findings
+unfoldable pub ended : ℕ → ℕ → List Left → End
+ended c n [] = Ran (c % 4294967296) (n % 4294967296)
+ended c n (l ∷ ls) = goesOn (l .answer) Halted (λ k. ended (c + 1) (n + k) ls)
+
+unfoldable pub runEnd : List ℕ → End
+runEnd F = ended 0 0 (calls F)
+
+-- 01, "The trace program": or with which number the file was turned down
+abbrev pub unlessRefused : ℕ → End → End
+unlessRefused zero e = e
+unlessRefused (suc n) e = Halted (suc n)
+
+unfoldable pub endOf : List ℕ → End
+endOf F = unlessRefused (first (fileTable F)) (runEnd F)
+
+-- 01, "The trace program": the state that the calls lead to from S, up to the first that is turned down
+unfoldable pub lastState : List ℕ → List Left → List ℕ
+lastState S [] = S
+lastState S (l ∷ ls) = goesOn (l .answer) (λ _. l .lent .state) (λ _. lastState (l .lent .state) ls)
+
 unfoldable pub stateAfter : List ℕ → List ℕ
-stateAfter F = stateBefore F (firstBad (takes F) (recordCount F))
+stateAfter F = lastState (freshLent F .state) (calls F)
+
+-- ---- what it prints
 
 -- 01, "The trace program": the lines of a cycle show its findings, n of them in D, and its number c, counted from 1
 pub record Told (F : List ℕ) (c n : ℕ) (D : List ℕ) : Type 0 where
   pub at : ℕ
+  pub call : Left
+  pub later : List Left
+  pub here : drop at (calls F) ≡ call ∷ later
   pub number : c ≡ (at + 1) % 4294967296
-  pub count : n ≡ findingCount F (recordOf F at) (stateBefore F at)
-  pub found : D ≡ newFindings F (recordOf F at) (stateBefore F at)
-
--- 01, "The trace program": how many findings the cycles before cycle k have
-unfoldable pub foundBefore : List ℕ → ℕ → ℕ
-foundBefore F zero = 0
-foundBefore F (suc k) = foundBefore F k + findingCount F (recordOf F k) (stateBefore F k)
-
--- 01, "The trace program": the last line of an accepted file has the counts of cycles and findings, or says that a record was turned down
-unfoldable pub runEnd : List ℕ → End
-runEnd F = cond (all (takes F) (recordCount F)) (Ran (recordCount F % 4294967296) (foundBefore F (recordCount F) % 4294967296)) (Refused 12)
-
--- 01, "The trace program": that of another says with which number the file was turned down
-abbrev pub unlessRefused : ℕ → End → End
-unlessRefused zero e = e
-unlessRefused (suc n) e = Refused (suc n)
-
-unfoldable pub endOf : List ℕ → End
-endOf F = unlessRefused (numberOf (verdict F)) (runEnd F)
+  pub count : Findings n ≡ call .answer
+  pub found : D ≡ call .lent .findings

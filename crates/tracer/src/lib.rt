@@ -1,15 +1,22 @@
-// The trace of a case file: from its fresh state all its cycles, each finding a line on standard output, and at the end `end` with the counts or `refused` with
-// the number (01, "The trace program"). The file is checked once. The evaluator runs the cycles and the crate `report` makes the lines; here they are written.
+// The trace of a case file: from its fresh state all its cycles, each finding a line on standard output, and at the end
+// `end` with the counts or `refused` with the number (01, "The trace program"). The file is checked once. The evaluator
+// runs the cycles and the crate `report` makes the lines; here they are written.
 ghost use mathlib.Core.Path.{_≡_};
-ghost use Prim.Native.Nat.{_≤_, _%_};
-ghost use Rattle.tracer.specs.Traced.{Started, Offered, Told, stateAfter, runEnd, endOf};
-ghost use Rattle.evaluator.specs.Answer.{freshFor};
+ghost use Prim.Native.Nat.{_/_, _%_, _<_, _≤_};
+ghost use lib.ListN.{length};
+ghost use Rattle.casefile.specs.Bodies.{projectOf};
+ghost use Rattle.evaluator.specs.Asks.{countsIn};
+ghost use Rattle.evaluator.specs.Fresh.{freshFor};
+ghost use Rattle.tracer.specs.Traced.{Told, stateAfter, runEnd, endOf};
+ghost use Rattle.tracer.specs.Asks.{Started, Offered};
 use block::FINDING_SIZE;
 use block::STATE_SIZE;
-use casefile::Layout;
 use evaluator::Answer;
+use evaluator::GROUPS_AT;
+use kind::Family;
 use libc::STDOUT_FILENO;
 use numbers::NumType;
+use project::Counts;
 
 // An accepted file has at most so many groups and blocks.
 const GROUPS: usize = 8;
@@ -28,14 +35,21 @@ fn print_end(cycles: u32, findings: u32) {
     io::write_all(STDOUT_FILENO, &text[..n]);
 }
 
-// The type of input `port` of block b as the line shows it: TWOHAND's mask is shown unsigned.
-fn shown_type(blocks: &[u8], b: u8, port: u8) -> NumType {
-    let r = casefile::block_record(blocks, 0, b as usize);
-    let kind = casefile::kind_of(r);
-    if kind == kind::TWOHAND {
-        return NumType::Uint32;
+// The type of an input port as the line shows its word: numbers by their type, everything else unsigned.
+fn shown_as(family: Family, kind: u8, parameters: &[u8], port: u8) -> NumType {
+    match family {
+        Family::Decouple => NumType::Uint32,
+        Family::Twohand => NumType::Uint32,
+        Family::Arithmetic => numbers::type_of(kind::type_in(kind, parameters, port)),
+        Family::Unknown => NumType::Uint32,
     }
-    numbers::type_of(kind::type_in(kind, casefile::parameters_of(r), port))
+}
+
+// That of input `port` of block b.
+fn shown_type(blocks: &[u8], b: u8, port: u8) -> NumType {
+    let r = project::block_record(blocks, b as usize);
+    let kind = project::kind_of(r);
+    shown_as(kind::family_of(kind), kind, project::parameters_of(r), port)
 }
 
 // The line of one finding.
@@ -72,7 +86,8 @@ fn print_findings(file: &[u8], blocks: &[u8], cycle: u32, k: u32, findings: &[u8
     }
 }
 
-// How a trace ends: the file or a record of it is turned down with a number, or all cycles have run, so many with so many findings.
+// How a trace ends: the file or a record of it is turned down with a number, or all cycles have run, so many with so
+// many findings.
 pub enum End {
     Refused(u8),
     Ran(u32, u32),
@@ -86,10 +101,11 @@ fn print_last(end: End) {
     }
 }
 
-// All cycles of an accepted file, from its fresh state. (A file has fewer than 2^15 records, of at most 64 findings each: the counts stay below 2^32.)
+// All cycles of an accepted file, from its fresh state. (A file has fewer than 2^15 records, of at most 64 findings
+// each: the counts stay below 2^32.)
 fn run(
     file: &[u8],
-    l: Layout,
+    c: Counts,
     groups: &[u8],
     inputs: &[u8],
     blocks: &[u8],
@@ -98,20 +114,20 @@ fn run(
     state: &mut [u8],
     findings: &mut [u8],
 ) -> End
-    requires { ⌜ Started (now file) l (now groups) (now inputs) (now blocks) (now records) (now order) (now state) (now findings) ⌝ }
-    requires { ⌜ now state ≡ freshFor (now file) ⌝ }
+    requires { ⌜ Started (now file) c (now groups) (now inputs) (now blocks) (now records) (now order)
+        (now findings) ⌝ }
+    requires { ⌜ now state ≡ freshFor (projectOf (now file)) ⌝ }
     ensures ended { λ r. ⌜ r ≡ runEnd (now (file .entry)) ⌝ }
     ensures left { λ _. ⌜ now (state .exit) ≡ stateAfter (now (file .entry)) ⌝ }
 {
-    let n = record_count(l);
+    let n = record_count(c.size, records);
     let mut total: u64 = 0;
     let mut done = 0;
     while done < n {
-        let rec = casefile::cycle_record(records, 0, l.size, done);
-        let errors = evaluator::groups_in_error(file, l, blocks, state);
+        let rec = project::record_at(records, c.size, done);
+        let errors = evaluator::groups_in_error(c, blocks, state);
         let answer = evaluator::step(
-            file,
-            l,
+            c,
             groups,
             inputs,
             blocks,
@@ -131,11 +147,12 @@ fn run(
     End::Ran(low(done as u64), low(total))
 }
 
-// How many records the trace has. (As a number of its own it comes with its range.)
-fn record_count(l: Layout) -> usize
-    ensures { λ r. ⌜ r ≡ l .records ⌝ }
+// How many cycle records of a size there are.
+fn record_count(size: usize, records: &[u8]) -> usize
+    requires { ⌜ 0 < size ⌝ }
+    ensures { λ r. ⌜ r ≡ length (now (records .entry)) / size ⌝ }
 {
-    l.records
+    records.len() / size
 }
 
 // A count that is below 2^32.
@@ -152,9 +169,21 @@ fn least(a: usize, b: usize) -> usize
     if a < b { a } else { b }
 }
 
+// The counts of the file's project.
+fn counts_in(file: &[u8]) -> Counts
+    ensures { λ r. ⌜ r ≡ countsIn (projectOf (now (file .entry))) ⌝ }
+{
+    project::counts_of(
+        casefile::body(file, casefile::BODY_G),
+        casefile::body(file, casefile::BODY_I),
+        casefile::body(file, casefile::BODY_B),
+        casefile::body(file, casefile::BODY_O),
+    )
+}
+
 // The trace of a file, over buffers that have the sizes of an accepted one's, but for its last line.
-fn start(file: &[u8], l: Layout, state: &mut [u8], findings: &mut [u8]) -> End
-    requires { ⌜ Offered (now file) l (now state) (now findings) ⌝ }
+fn start(file: &[u8], c: Counts, state: &mut [u8], findings: &mut [u8]) -> End
+    requires { ⌜ Offered (now file) c (now state) (now findings) ⌝ }
     ensures { λ r. ⌜ r ≡ endOf (now (file .entry)) ⌝ }
 {
     let number = evaluator::fresh(file, state);
@@ -165,10 +194,10 @@ fn start(file: &[u8], l: Layout, state: &mut [u8], findings: &mut [u8]) -> End
     let inputs = casefile::body(file, casefile::BODY_I);
     let blocks = casefile::body(file, casefile::BODY_B);
     let records = casefile::body(file, casefile::BODY_T);
-    let order = evaluator::block_order(file, l, blocks);
+    let order = evaluator::block_order(c, blocks);
     run(
         file,
-        l,
+        c,
         groups,
         inputs,
         blocks,
@@ -183,13 +212,13 @@ fn start(file: &[u8], l: Layout, state: &mut [u8], findings: &mut [u8]) -> End
 pub fn trace(file: &[u8]) -> End
     ensures { λ r. ⌜ r ≡ endOf (now (file .entry)) ⌝ }
 {
-    let mut state = [0u8; GROUPS + STATE_SIZE * BLOCKS];
+    let mut state = [0u8; GROUPS_AT + GROUPS + STATE_SIZE * BLOCKS];
     let mut findings = [0u8; FINDING_SIZE * BLOCKS];
-    let l = casefile::layout_of(file);
-    let blocks = least(l.blocks, BLOCKS);
-    let size = least(l.groups, GROUPS) + STATE_SIZE * blocks;
+    let c = counts_in(file);
+    let blocks = least(c.blocks, BLOCKS);
+    let size = GROUPS_AT + least(c.groups, GROUPS) + STATE_SIZE * blocks;
     let room = FINDING_SIZE * blocks;
-    let end = start(file, l, &mut state[..size], &mut findings[..room]);
+    let end = start(file, c, &mut state[..size], &mut findings[..room]);
     print_last(end);
     end
 }

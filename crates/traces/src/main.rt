@@ -1,5 +1,5 @@
-// Prints the traces of the case files of standard input, one after the other, each file after its length (4 bytes, little endian), so that they can be compared
-// with a second source. A file that is broken off ends the run.
+// Prints the traces of the case files of standard input, one after the other, each file after its length (4 bytes,
+// little endian), so that they can be compared with a second source. A file that is broken off ends the run.
 use libc::STDIN_FILENO;
 
 // The trace of the next file. Answers whether there was one.

@@ -1,4 +1,5 @@
--- `batch::main` is safe and ends: the measure is the number of requests that the counter still has room for, and nothing has to hold from turn to turn.
+-- `batch::main` is safe and ends: the measure is the number of requests that the counter still has room for, and
+-- nothing has to hold from turn to turn.
 -- Assumes nothing.
 use Prim.Native.Nat.{_-_}
 use borrow.Author.Needs.{needs}

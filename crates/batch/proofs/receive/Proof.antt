@@ -1,4 +1,5 @@
--- `batch::receive` meets its contract: what is read into is as long as was asked, so a length that was read in full counts bytes of the room.
+-- `batch::receive` meets its contract: what is read into is as long as was asked, so a length that was read in full
+-- counts bytes of the room.
 -- Assumes nothing.
 use mathlib.Core.Path.{sym}
 use native.Mathlib.Omega.{arith}

@@ -1,17 +1,19 @@
--- `evaluator::sizes_of` meets its contract: the file's number says which case holds; an accepted file's counts are small, so the sizes fit.
-use mathlib.Core.Path.{_≡_, ap, _∙_}
-use mathlib.Core.List.{List}
-use Prim.Native.Nat.{ℕ, _≤_}
+-- `evaluator::sizes_of` meets its contract: the file's number says which case holds; an accepted file's counts are
+-- small, so the sizes fit.
+use mathlib.Core.Path.{_≡_, sym, ap, _∙_}
 use native.Mathlib.Omega.{arith}
 use borrow.Author.Needs.{needs}
 use borrow.Author.Tests.{ne-eqb}
 use denote.Ref.{now}
-use Rattle.casefile.specs.declared.Verdict.the-variants.{Accepted}
-use Rattle.casefile.specs.Refusal.{verdict, numberOf}
-use Rattle.casefile.proofs.Accepted.{number-zero}
+use Rattle.wire.specs.Tables.{first}
+use Rattle.casefile.specs.Bodies.{projectOf}
+use Rattle.casefile.specs.Refusal.{fileTable, numberOf}
+use Rattle.casefile.proofs.Refusals.{number-is, number-zero}
+use Rattle.casefile.proofs.Accepted.{accepted}
 use Rattle.evaluator.specs.Fresh.{sizesOf}
+use Rattle.evaluator.specs.Asks.{Few}
 use Rattle.evaluator.specs.declared.Sizes.the-variants.{Bytes}
-use Rattle.evaluator.proofs.Checking.{few-groups, few-blocks, few-outputs, state-length, outputs-length, findings-length}
+use Rattle.evaluator.proofs.Checking.{Taken, taken, few, state-counted, rows-counted, notes-counted}
 use Rattle.evaluator.proofs.sizes_of.Statement.{statement}
 use Rattle.evaluator.proofs.sizes_of.Tie as tie
 
@@ -19,24 +21,18 @@ abbrev start-of : tie.After-number-of → tie.Start
 start-of c = c .before .before .before
 
 -- the number is the file's
-number : (c : tie.After-number-of) → c .number-of .result ≡ numberOf (verdict (now (start-of c .args .file)))
-number c = c .number-of .ensures ∙ ap numberOf (c .before .check .ensures)
+number : (c : tie.After-number-of) → c .number-of .result ≡ first (fileTable (now (start-of c .args .file)))
+number c =
+    c .number-of .ensures ∙ ap numberOf (c .before .check .ensures) ∙ number-is (now (start-of c .args .file))
 
-passed : (c : tie.Else1) → verdict (now (start-of (c .before) .args .file)) ≡ Accepted
-passed c = number-zero (verdict (now (start-of (c .before) .args .file))) (omega (arith, number (c .before)))
+-- it is accepted
+passed : (c : tie.Else1) → Taken (projectOf (now (start-of (c .before) .args .file)))
+passed c =
+    let F = now (start-of (c .before) .args .file) in
+    taken F (accepted F (number-zero F (sym (number (c .before)) ∙ c .if1 .left)))
 
--- the file of a place, and its layout's counts
-abbrev file-of : tie.After-layout-of → List ℕ
-file-of c = now (start-of (c .before .before) .args .file)
-
-groups : (c : tie.After-layout-of) → c .layout-of .result .groups ≤ 8
-groups c = few-groups (file-of c) (c .layout-of .ensures) (passed (c .before))
-
-blocks : (c : tie.After-layout-of) → c .layout-of .result .blocks ≤ 64
-blocks c = few-blocks (file-of c) (c .layout-of .ensures) (passed (c .before))
-
-outputs : (c : tie.After-layout-of) → c .layout-of .result .outputs ≤ 64
-outputs c = few-outputs (file-of c) (c .layout-of .ensures) (passed (c .before))
+small : (c : tie.After-counts-in) → Few (c .counts-in .result)
+small c = few (c .counts-in .ensures) (passed (c .before))
 
 returns : tie.Need-returns
 unfolding sizesOf
@@ -45,9 +41,10 @@ returns c = rw (← number (c .before), ne-eqb (c .before .number-of .result) 0 
 returns-2 : tie.Need-returns-2
 unfolding sizesOf
 returns-2 c =
-    let F = file-of c in
-    let e = c .layout-of .ensures in
-    rw (passed (c .before)) (λ i. Bytes (state-length F e i) (outputs-length F e i) (findings-length F e i))
+    let e = c .counts-in .ensures in
+    let t = passed (c .before) in
+    rw (sym (number (c .before .before)) ∙ c .before .if1 .left)
+    (λ i. Bytes (state-counted e t i) (rows-counted e t i) (notes-counted e t i))
 
 pub sizes-of-spec : {M : Type 1} → statement M
 sizes-of-spec =
@@ -57,11 +54,12 @@ sizes-of-spec =
     (λ c κs. search needs)
     returns
     (λ c κs. search needs)
-    (λ c. omega (arith, groups c, blocks c))
-    (λ c. omega (arith, groups c, blocks c))
-    (λ c. omega (arith, groups c, blocks c))
-    (λ c. omega (arith, outputs c))
-    (λ c. omega (arith, outputs c))
-    (λ c. omega (arith, blocks c))
-    (λ c. omega (arith, blocks c))
+    (λ c. search needs)
+    (λ c. omega (arith, small c))
+    (λ c. omega (arith, small c))
+    (λ c. omega (arith, small c))
+    (λ c. omega (arith, small c))
+    (λ c. omega (arith, small c))
+    (λ c. omega (arith, small c))
+    (λ c. omega (arith, small c))
     returns-2)

@@ -3,6 +3,7 @@ use mathlib.Core.Path.{ap}
 use borrow.Author.Needs.{needs}
 use denote.Ref.{now}
 use Rattle.wire.proofs.Places.{ok, bad}
+use Rattle.project.specs.Project.{recordSize}
 use Rattle.evaluator.specs.declared.Answer.the-variants.{Findings}
 use Rattle.evaluator.specs.Steps.{stepAnswer, stepState, stepFindings}
 use Rattle.evaluator.proofs.Calls.{sized}
@@ -10,7 +11,7 @@ use Rattle.evaluator.proofs.step.Statement.{statement}
 use Rattle.evaluator.proofs.step.Tie as tie
 
 abbrev start-of : tie.After-record-ok → tie.Start
-start-of c = c .before .before .before .before .before .before .before .before .before .before
+start-of c = c .before .before .before .before .before .before .before .before .before
 
 returns : tie.Need-returns
 unfolding stepAnswer stepState stepFindings
@@ -25,16 +26,23 @@ returns-2 c =
     let r = v .advance .ensures in
     (rw e (ap Findings (r .1 .1)), (rw e (r .0), rw e (r .1 .0)))
 
+advance-requires : tie.Need-advance-requires
+unfolding recordSize
+advance-requires c κs =
+    let t = c .before .before in
+    let s = start-of (t .before) in
+    let given = sized (now (s .args .groups)) (now (s .args .inputs)) (now (s .args .rec))
+    (ok (t .before .record-ok .ensures) (t .if1 .left))
+    in
+    record { inputs = _; begun = s .pre .1; given = given }
+
 pub step-spec : {M : Type 1} → statement M
 step-spec =
     tie.close
     (tie.spec
-    (λ c κs. let s = c .before .before .before .before .before .before .before .before .before in (s .pre .1 .layout, (s .pre .1 .accepted, (s .pre .1 .groups, s .pre .0))))
+    (λ c κs. search needs)
     returns
-    (λ c κs.
-    let t = c .before .before in
-    let s = start-of (t .before) in
-    (sized (now (s .args .file)) (now (s .args .rec)) (ok (t .before .record-ok .ensures) (t .if1 .left)), s .pre .1))
+    advance-requires
     (λ c. search needs)
     (λ c. search needs)
     returns-2)

@@ -6,4 +6,9 @@ use Rattle.hagglethwait.proofs.hagglethwait_check.Statement.{statement}
 use Rattle.hagglethwait.proofs.hagglethwait_check.Tie as tie
 
 pub hagglethwait-check-spec : {M : Type 1} → statement M
-hagglethwait-check-spec = tie.close (tie.spec (λ c κs. search needs) (λ c κs. search needs) (λ c. c .number-of .ensures ∙ ap numberOf (c .before .check .ensures)))
+hagglethwait-check-spec =
+    tie.close
+    (tie.spec
+    (λ c κs. search needs)
+    (λ c κs. search needs)
+    (λ c. c .number-of .ensures ∙ ap numberOf (c .before .check .ensures)))

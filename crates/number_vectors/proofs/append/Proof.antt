@@ -1,4 +1,5 @@
--- `number_vectors::append` is safe and ends: a store keeps the length of the buffer, and the measure is what is left of the text.
+-- `number_vectors::append` is safe and ends: a store keeps the length of the buffer, and the measure is what is left
+-- of the text.
 -- Assumes nothing.
 use mathlib.Core.Path.{_≡_}
 use Prim.Native.Nat.{_-_}

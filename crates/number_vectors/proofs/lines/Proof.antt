@@ -1,5 +1,5 @@
--- `number_vectors::lines` is safe and ends: it never passes the end of the vectors, a line keeps the length of the buffer, and the measure
--- is what is left of the vectors.
+-- `number_vectors::lines` is safe and ends: it never passes the end of the vectors, a line keeps the length of the
+-- buffer, and the measure is what is left of the vectors.
 -- Assumes nothing.
 use mathlib.Core.Path.{_≡_}
 use Prim.Native.Nat.{_-_, _≤_}

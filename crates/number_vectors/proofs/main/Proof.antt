@@ -1,4 +1,5 @@
--- `number_vectors::main` is safe and ends: the measure is the number of turns that are left, and nothing has to hold from turn to turn.
+-- `number_vectors::main` is safe and ends: the measure is the number of turns that are left, and nothing has to hold
+-- from turn to turn.
 -- Assumes nothing.
 use native.Mathlib.Omega.{arith}
 use Rattle.number_vectors.proofs.main.Statement.{statement}

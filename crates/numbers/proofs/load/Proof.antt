@@ -1,5 +1,5 @@
--- `numbers::load` gives the sign and the magnitude of the word's value: the word itself, or what is left of it to 2 ^ 32.
--- Assumes nothing.
+-- `numbers::load` gives the sign and the magnitude of the word's value: the word itself, or what is left of it to 2 ^
+-- 32. Assumes nothing.
 use mathlib.Core.Path.{sym, _∙_}
 use Prim.Native.Nat.{_-_}
 use mathlib.Core.Bool.{true}
@@ -17,8 +17,13 @@ returns c =
 returns-2 : tie.Need-returns-2
 returns-2 c =
     let b = c .before .before in
-    let m = 4294967296 - b .before .args .w in
-    rw (value-high (b .before .args .t) (sym (b .is-signed .ensures) ∙ c .before .if1 .taken) (c .if2 .left) (omega arith), below-zero m (omega arith), abs-sgn true m)
+    let x = b .before .args in
+    let m = 4294967296 - x .w in
+    rw (
+      value-high (x .t) (sym (b .is-signed .ensures) ∙ c .before .if1 .taken) (c .if2 .left) (omega arith),
+      below-zero m (omega arith),
+      abs-sgn true m,
+    )
 
 returns-3 : tie.Need-returns-3
 returns-3 c = let b = c .before in rw (value-plain (b .before .args .t) (sym (b .is-signed .ensures) ∙ c .if1 .left))

@@ -1,5 +1,5 @@
--- `numbers::rounding_of` is the rounding of the byte: each arm is the definition at that byte, and the last one at none of the others.
--- Assumes nothing.
+-- `numbers::rounding_of` is the rounding of the byte: each arm is the definition at that byte, and the last one at none
+-- of the others. Assumes nothing.
 use borrow.Author.Tests.{ne-eqb}
 use Rattle.numbers.specs.Results.{roundingOf}
 use Rattle.numbers.proofs.rounding_of.Statement.{statement}

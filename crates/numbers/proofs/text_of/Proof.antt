@@ -1,5 +1,5 @@
--- `numbers::text_of` is the text ID of the diagnosis: each arm is the definition at that number, and the last one at none of the others.
--- Assumes nothing.
+-- `numbers::text_of` is the text ID of the diagnosis: each arm is the definition at that number, and the last one at
+-- none of the others. Assumes nothing.
 use borrow.Author.Tests.{ne-eqb}
 use Rattle.numbers.specs.Results.{textOf}
 use Rattle.numbers.proofs.text_of.Statement.{statement}

@@ -1,5 +1,5 @@
--- `numbers::type_of` is the type of the byte: each arm is the definition at that byte, and the last one at none of the others.
--- Assumes nothing.
+-- `numbers::type_of` is the type of the byte: each arm is the definition at that byte, and the last one at none of the
+-- others. Assumes nothing.
 use borrow.Author.Tests.{ne-eqb}
 use Rattle.numbers.specs.Types.{typeOf}
 use Rattle.numbers.proofs.type_of.Statement.{statement}

@@ -13,9 +13,21 @@ digit-count-spec =
     (λ c. sym (decimal-long 1 (c .before .before .args .n) (c .before .if1 .left) (c .if2 .taken)))
     (λ c. sym (decimal-long 2 (c .before .before .before .args .n) (c .before .if2 .left) (c .if3 .taken)))
     (λ c. sym (decimal-long 3 (c .before .before .before .before .args .n) (c .before .if3 .left) (c .if4 .taken)))
-    (λ c. sym (decimal-long 4 (c .before .before .before .before .before .args .n) (c .before .if4 .left) (c .if5 .taken)))
-    (λ c. sym (decimal-long 5 (c .before .before .before .before .before .before .args .n) (c .before .if5 .left) (c .if6 .taken)))
-    (λ c. sym (decimal-long 6 (c .before .before .before .before .before .before .before .args .n) (c .before .if6 .left) (c .if7 .taken)))
-    (λ c. sym (decimal-long 7 (c .before .before .before .before .before .before .before .before .args .n) (c .before .if7 .left) (c .if8 .taken)))
-    (λ c. sym (decimal-long 8 (c .before .before .before .before .before .before .before .before .before .args .n) (c .before .if8 .left) (c .if9 .taken)))
-    (λ c. sym (decimal-long 9 (c .before .before .before .before .before .before .before .before .before .args .n) (c .if9 .left) (search needs))))
+    (λ c.
+    let a = c .before .before .before .before .before .args in
+    sym (decimal-long 4 (a .n) (c .before .if4 .left) (c .if5 .taken)))
+    (λ c.
+    let a = c .before .before .before .before .before .before .args in
+    sym (decimal-long 5 (a .n) (c .before .if5 .left) (c .if6 .taken)))
+    (λ c.
+    let a = c .before .before .before .before .before .before .before .args in
+    sym (decimal-long 6 (a .n) (c .before .if6 .left) (c .if7 .taken)))
+    (λ c.
+    let a = c .before .before .before .before .before .before .before .before .args in
+    sym (decimal-long 7 (a .n) (c .before .if7 .left) (c .if8 .taken)))
+    (λ c.
+    let a = c .before .before .before .before .before .before .before .before .before .args in
+    sym (decimal-long 8 (a .n) (c .before .if8 .left) (c .if9 .taken)))
+    (λ c.
+    let a = c .before .before .before .before .before .before .before .before .before .args in
+    sym (decimal-long 9 (a .n) (c .if9 .left) (search needs))))

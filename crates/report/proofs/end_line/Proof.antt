@@ -1,4 +1,5 @@
--- `report::end_line` meets its contract: the word, the two numbers and the line feed, each stored behind the one before.
+-- `report::end_line` meets its contract: the word, the two numbers and the line feed, each stored behind the one
+-- before.
 use borrow.Author.Needs.{needs}
 use Rattle.report.specs.Lines.{endWord, endLine}
 use Rattle.report.proofs.Lines.{end-short}

@@ -1,4 +1,5 @@
--- `report::finding_line` meets its contract: the word, the four numbers, the two inputs and the line feed, each stored behind the one before.
+-- `report::finding_line` meets its contract: the word, the four numbers, the two inputs and the line feed, each stored
+-- behind the one before.
 use Prim.Native.Nat.{_≤_}
 use borrow.Author.Needs.{needs}
 use lib.ListN.{length}
@@ -8,10 +9,13 @@ use Rattle.report.proofs.Puts.{put-word, _then_, put-last, put-printed}
 use Rattle.report.proofs.finding_line.Statement.{statement}
 use Rattle.report.proofs.finding_line.Tie as tie
 
-short : (c : tie.Start) → let a = c .args in length (findingLine (a .cycle) (a .block) (a .text) (a .diagnosis) (a .ta) (a .x) (a .tb) (a .y)) ≤ 96
+short : (c : tie.Start) →
+    let a = c .args in
+    length (findingLine (a .cycle) (a .block) (a .text) (a .diagnosis) (a .ta) (a .x) (a .tb) (a .y)) ≤ 96
 short c =
     let a = c .args in
-    finding-short (a .cycle) (a .block) (a .text) (a .diagnosis) (a .ta) (a .x) (a .tb) (a .y) (search needs) (search needs) (search needs) (search needs) (search needs) (search needs)
+    finding-short (a .cycle) (a .block) (a .text) (a .diagnosis) (a .ta) (a .x) (a .tb) (a .y)
+    (search needs) (search needs) (search needs) (search needs) (search needs) (search needs)
 
 returns : tie.Need-returns
 unfolding findingLine

@@ -1,4 +1,5 @@
--- `report::put_decimal` meets its contract: after each turn the digits behind those of `rest` stand in the buffer, and the last store is the first digit.
+-- `report::put_decimal` meets its contract: after each turn the digits behind those of `rest` stand in the buffer, and
+-- the last store is the first digit.
 use mathlib.Core.Path.{ap, _∙_}
 use native.Mathlib.Omega.{arith}
 use borrow.Author.Needs.{needs}
@@ -35,13 +36,15 @@ put-decimal-spec =
     μ-loop
     (λ c κs. search needs)
     (λ c. omega (arith, c .digit-count .ensures, decimal-ten (c .before .before .args .n) (search needs)))
-    (λ c. behind-none (now (c .before .before .args .out)) (c .before .before .args .at) (c .before .before .args .n) (c .digit-count .ensures))
+    (λ c. let a = c .before .before .args in behind-none (now (a .out)) (a .at) (a .n) (c .digit-count .ensures))
     (λ c. omega (arith, behind-some (c .before .loop .inv)))
     (λ c. search needs)
     (λ c. search needs)
     (λ c κs. search needs)
     (λ c. search needs)
-    (λ c. behind-more (c .before .before .before .before .before .loop .inv) (omega arith) (c .before .before .put-byte .ensures))
+    (λ c.
+    let put = c .before .before in
+    behind-more (put .before .before .before .loop .inv) (omega arith) (put .put-byte .ensures))
     (λ c. search needs)
     (λ c. search needs)
     (λ c κs. search needs)

@@ -9,7 +9,8 @@ returns : tie.Need-returns
 returns c =
     let number = c .before .before in
     let space = number .before .before .before .before in
-    (put-first 32 (space .put-byte .ensures) (number .put-decimal .ensures .0), omega (arith, number .put-decimal .ensures .1))
+    let e = number .put-decimal .ensures in
+    (put-first 32 (space .put-byte .ensures) (e .0), omega (arith, e .1))
 
 pub put-field-spec : {M : Type 1} → statement M
 put-field-spec =

@@ -1,4 +1,5 @@
--- `report::put_input` meets its contract: a space, a minus sign where the word's number is below 0, and the digits of its magnitude, which has 32 bits.
+-- `report::put_input` meets its contract: a space, a minus sign where the word's number is below 0, and the digits of
+-- its magnitude, which has 32 bits.
 use mathlib.Core.Path.{sym, ap, _∙_}
 use native.Mathlib.Omega.{arith}
 use borrow.Author.Needs.{needs}
@@ -13,7 +14,8 @@ use Rattle.report.proofs.put_input.Tie as tie
 cast-magnitude : tie.Need-cast-magnitude
 cast-magnitude c =
     let a = c .before .before .before .args in
-    record { fits = rw (ap (λ (s : Signed). s .mag) (c .before .load .ensures)) (value-small (a .t) (a .w) (search needs)) }
+    let magnitude = ap (λ (s : Signed). s .mag) (c .before .load .ensures) in
+    record { fits = rw magnitude (value-small (a .t) (a .w) (search needs)) }
 
 returns : tie.Need-returns
 returns c =
@@ -25,7 +27,11 @@ returns c =
     let z = value (load .before .before .args .t) (load .before .before .args .w) in
     let sign = ap (λ (s : Signed). s .neg) (load .load .ensures) in
     let magnitude = ap (λ (s : Signed). s .mag) (load .load .ensures) in
-    (rw (← (signed-minus z (sym sign ∙ taken .if1 .taken)), ← magnitude) (put-second 32 45 (space .put-byte .ensures) (minus .put-byte2 .ensures) (number .put-decimal .ensures .0)), omega (arith, number .put-decimal .ensures .1))
+    let e = number .put-decimal .ensures in (
+      rw (← (signed-minus z (sym sign ∙ taken .if1 .taken)), ← magnitude)
+          (put-second 32 45 (space .put-byte .ensures) (minus .put-byte2 .ensures) (e .0)),
+      omega (arith, e .1),
+    )
 
 returns-2 : tie.Need-returns-2
 returns-2 c =
@@ -36,7 +42,11 @@ returns-2 c =
     let z = value (load .before .before .args .t) (load .before .before .args .w) in
     let sign = ap (λ (s : Signed). s .neg) (load .load .ensures) in
     let magnitude = ap (λ (s : Signed). s .mag) (load .load .ensures) in
-    (rw (← (signed-plain z (sym sign ∙ left .if1 .left)), ← magnitude) (put-first 32 (space .put-byte .ensures) (number .put-decimal2 .ensures .0)), omega (arith, number .put-decimal2 .ensures .1))
+    let e = number .put-decimal2 .ensures in (
+      rw (← (signed-plain z (sym sign ∙ left .if1 .left)), ← magnitude)
+          (put-first 32 (space .put-byte .ensures) (e .0)),
+      omega (arith, e .1),
+    )
 
 pub put-input-spec : {M : Type 1} → statement M
 put-input-spec =

@@ -1,4 +1,5 @@
--- `report_lines::lines` is safe and ends: it never passes the end of the records, and the measure is what is left of them.
+-- `report_lines::lines` is safe and ends: it never passes the end of the records, and the measure is what is left of
+-- them.
 -- Assumes nothing.
 use Prim.Native.Nat.{_-_, _≤_}
 use lib.ListN.{length}

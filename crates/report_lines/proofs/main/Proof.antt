@@ -1,4 +1,5 @@
--- `report_lines::main` is safe and ends: the measure is the number of turns that are left, and nothing has to hold from turn to turn.
+-- `report_lines::main` is safe and ends: the measure is the number of turns that are left, and nothing has to hold
+-- from turn to turn.
 -- Assumes nothing.
 use native.Mathlib.Omega.{arith}
 use Rattle.report_lines.proofs.main.Statement.{statement}

@@ -1,4 +1,5 @@
--- `traces::main` is safe and ends: the measure is the number of turns that are left, and nothing has to hold from turn to turn.
+-- `traces::main` is safe and ends: the measure is the number of turns that are left, and nothing has to hold from turn
+-- to turn.
 use borrow.Author.Needs.{needs}
 use Rattle.traces.proofs.main.Statement.{statement}
 use Rattle.traces.proofs.main.Tie as tie

@@ -1,4 +1,5 @@
--- `traces::next` is safe: what is read into, and what is traced, is as long as the file's length says, and no longer than the room.
+-- `traces::next` is safe: what is read into, and what is traced, is as long as the file's length says, and no longer
+-- than the room.
 use mathlib.Core.Path.{sym}
 use native.Mathlib.Omega.{arith}
 use lib.Seq.{length-take-le}

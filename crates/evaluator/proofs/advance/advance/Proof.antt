@@ -1,13 +1,14 @@
--- `evaluator::advance::advance` meets its contract: the parts' contracts come to the definitions of a cycle (`Checked`).
+-- `evaluator::advance::advance` meets its contract: the parts' contracts come to the definitions of a cycle
+-- (`Checked`).
 use borrow.Author.Needs.{needs}
 use borrow.Author.Tests.{not-true}
-use denote.Ref.{now}
-use Rattle.evaluator.proofs.Checked.{linking, heads-fit, running, ran-state, packable, all-findings, all-count, no-findings, no-count}
+use Rattle.evaluator.proofs.Checked.{packable, all-count, all-findings, few-heads, heads-fit, no-count}
+use Rattle.evaluator.proofs.Checked.{no-findings, ran-state, running}
 use Rattle.evaluator.proofs.advance.advance.Statement.{statement}
 use Rattle.evaluator.proofs.advance.advance.Tie as tie
 
 abbrev start-of : tie.After-decide → tie.Start
-start-of c = c .before .before .before .before .before .before .before .before .before .before .before .before .before .before
+start-of c = c .before .before .before .before .before .before .before .before .before .before .before .before .before
 
 abbrev decided-of : tie.After-run → tie.After-decide
 decided-of c = c .before .before .before .before .before .before
@@ -17,8 +18,8 @@ run-requires c κs =
     let d = c .before .before .before .before .before in
     let s = start-of d in
     let a = s .args in
-    running (now (a .file)) (now (a .rec)) (a .l) (now (a .groups)) (now (a .blocks)) (now (a .ranks)) (now (a .errors)) (now (a .state)) (now (a .findings)) (s .pre .1) _ _ (d .decide .ensures .0) (d .decide .ensures .1)
-    _ (d .before .before .before .before .clear .ensures) (s .pre .0)
+    running (s .pre) _ _ (d .decide .ensures .0) (d .decide .ensures .1)
+    _ (d .before .before .before .before .clear .ensures)
 
 -- no block entered ERROR
 returns : tie.Need-returns
@@ -28,10 +29,10 @@ returns c =
     let s = start-of d in
     let a = s .args in
     let none = r .run .ensures .1 .1 (not-true (r .run .result) (c .if1 .taken)) in (
-      ran-state (now (a .file)) (now (a .rec)) (a .l) (now (a .groups)) (now (a .blocks)) (now (a .ranks)) (now (a .errors)) (now (a .state)) (now (a .findings)) (s .pre .1) _ _ (d .decide .ensures .0) (d .decide .ensures .1) _ (r .run .ensures .0),
+      ran-state (s .pre) _ _ (d .decide .ensures .0) (d .decide .ensures .1) _ (r .run .ensures .0),
       (
-        no-findings (now (a .file)) (now (a .rec)) (a .l) (now (a .groups)) (now (a .blocks)) (now (a .ranks)) (now (a .errors)) (now (a .state)) (now (a .findings)) (s .pre .1) _ _ (d .decide .ensures .0) (d .decide .ensures .1) _ (r .run .ensures .1 .0) none,
-        no-count (now (a .file)) (now (a .rec)) (a .l) (now (a .groups)) (now (a .blocks)) (now (a .ranks)) (now (a .errors)) (now (a .state)) (now (a .findings)) (s .pre .1) _ _ (d .decide .ensures .0) (d .decide .ensures .1) _ (r .run .ensures .1 .0) none,
+        no-findings (s .pre) _ _ (d .decide .ensures .0) (d .decide .ensures .1) _ (r .run .ensures .1 .0) none,
+        no-count (s .pre) _ _ (d .decide .ensures .0) (d .decide .ensures .1) _ (r .run .ensures .1 .0) none,
       ),
     )
 
@@ -41,7 +42,7 @@ pack-requires c κs =
     let d = decided-of r in
     let s = start-of d in
     let a = s .args in
-    packable (now (a .file)) (now (a .rec)) (a .l) (now (a .groups)) (now (a .blocks)) (now (a .ranks)) (now (a .errors)) (now (a .state)) (now (a .findings)) (s .pre .1) _ _ (d .decide .ensures .0) (d .decide .ensures .1) _ (r .run .ensures .1 .0)
+    packable (s .pre) _ _ (d .decide .ensures .0) (d .decide .ensures .1) _ (r .run .ensures .1 .0)
 
 -- some block may have
 returns-2 : tie.Need-returns-2
@@ -51,10 +52,12 @@ returns-2 c =
     let d = decided-of r in
     let s = start-of d in
     let a = s .args in (
-      ran-state (now (a .file)) (now (a .rec)) (a .l) (now (a .groups)) (now (a .blocks)) (now (a .ranks)) (now (a .errors)) (now (a .state)) (now (a .findings)) (s .pre .1) _ _ (d .decide .ensures .0) (d .decide .ensures .1) _ (r .run .ensures .0),
+      ran-state (s .pre) _ _ (d .decide .ensures .0) (d .decide .ensures .1) _ (r .run .ensures .0),
       (
-        all-findings (now (a .file)) (now (a .rec)) (a .l) (now (a .groups)) (now (a .blocks)) (now (a .ranks)) (now (a .errors)) (now (a .state)) (now (a .findings)) (s .pre .1) _ _ (d .decide .ensures .0) (d .decide .ensures .1) _ (r .run .ensures .1 .0) _ (p .pack .ensures .0),
-        all-count (now (a .file)) (now (a .rec)) (a .l) (now (a .groups)) (now (a .blocks)) (now (a .ranks)) (now (a .errors)) (now (a .state)) (now (a .findings)) (s .pre .1) _ _ (d .decide .ensures .0) (d .decide .ensures .1) _ (r .run .ensures .1 .0) _ (p .pack .ensures .1),
+        all-findings (s .pre) _ _ (d .decide .ensures .0) (d .decide .ensures .1) _ (r .run .ensures .1 .0) _
+            (p .pack .ensures .0),
+        all-count (s .pre) _ _ (d .decide .ensures .0) (d .decide .ensures .1) _ (r .run .ensures .1 .0) _
+            (p .pack .ensures .1),
       ),
     )
 
@@ -64,10 +67,10 @@ advance-spec =
     (tie.spec
     (λ c κs. search needs)
     (λ c κs.
-    let s = c .before .before .before .before .before .before .before .before .before .before .before .before .before in
+    let s = c .before .before .before .before .before .before .before .before .before .before .before .before in
     let a = s .args in (
-      linking (now (a .file)) (now (a .rec)) (a .l) (now (a .groups)) (now (a .blocks)) (now (a .ranks)) (now (a .errors)) (now (a .state)) (now (a .findings)) (s .pre .1),
-      (heads-fit (now (a .file)) (now (a .rec)) (a .l) (now (a .groups)) (now (a .blocks)) (now (a .ranks)) (now (a .errors)) (now (a .state)) (now (a .findings)) (s .pre .1), s .pre .1 .errors),
+      few-heads (s .pre),
+      heads-fit (s .pre),
     ))
     (λ c. search needs)
     run-requires

@@ -1,25 +1,24 @@
--- `evaluator::advance::whole_cycle` meets its contract: the state and the findings are `advance`'s, and the outputs show the new state (`Checked`).
+-- `evaluator::advance::whole_cycle` meets its contract: the state and the findings are `advance`'s, and the outputs
+-- show the new state (`Checked`).
 use mathlib.Core.Path.{ap, _∙_}
 use borrow.Author.Needs.{needs}
 use lib.ListN.{length}
 use denote.Ref.{now}
-use Rattle.casefile.proofs.Accepted.{accepted}
-use Rattle.evaluator.proofs.Checked.{new-long, in-place, in-groups, in-order, ready, outputs-fit, outputs-long, shown-new}
+use Rattle.evaluator.proofs.Checked.{ready, in-groups, in-order, in-place, new-long, outputs-fit, outputs-long}
+use Rattle.evaluator.proofs.Checked.{shown-new}
 use Rattle.evaluator.proofs.advance.whole_cycle.Statement.{statement}
 use Rattle.evaluator.proofs.advance.whole_cycle.Tie as tie
 
 abbrev start-of : tie.After-ranks → tie.Start
-start-of c = c .before .before .before .before .before .before .before .before .before
+start-of c = c .before .before .before .before .before .before .before .before
 
 advance-requires : tie.Need-advance-requires
 advance-requires c κs =
     let e = c .before .before .before .before in
     let k = e .before .before in
     let s = start-of k in
-    let a = s .args in (
-      s .pre .0,
-      ready (now (a .file)) (now (a .rec)) (a .l) (now (a .groups)) (now (a .blocks)) (now (a .rows)) (now (a .state)) (now (a .outputs)) (now (a .findings)) (s .pre .1) _ _ (k .ranks .ensures) (e .error-groups .ensures),
-    )
+    let a = s .args in
+    ready (s .pre) _ _ (k .ranks .ensures) (e .error-groups .ensures)
 
 returns : tie.Need-returns
 returns c =
@@ -29,21 +28,21 @@ returns c =
     let s = start-of k in
     let a = s .args in
     let e = v .advance .ensures in
-    (e .0, (shown-new (now (a .file)) (now (a .rec)) (a .l) (now (a .groups)) (now (a .blocks)) (now (a .rows)) (now (a .state)) (now (a .outputs)) (now (a .findings)) (s .pre .1) _ _ (e .0) (w .write-outputs .ensures), (e .1 .0, e .1 .1)))
+    (e .0, (shown-new (s .pre) _ _ (e .0) (w .write-outputs .ensures), (e .1 .0, e .1 .1)))
 
 pub whole-cycle-spec : {M : Type 1} → statement M
 whole-cycle-spec =
     tie.close
     (tie.spec
     (λ c κs.
-    let s = c .before .before .before .before .before .before .before .before in
+    let s = c .before .before .before .before .before .before .before in
     let a = s .args in
-    in-order (now (a .file)) (now (a .rec)) (a .l) (now (a .groups)) (now (a .blocks)) (now (a .rows)) (now (a .state)) (now (a .outputs)) (now (a .findings)) (s .pre .1))
+    in-order (s .pre))
     (λ c κs.
     let s = start-of (c .before) in
     let a = s .args in (
-      in-place (now (a .file)) (now (a .rec)) (a .l) (now (a .groups)) (now (a .blocks)) (now (a .rows)) (now (a .state)) (now (a .outputs)) (now (a .findings)) (s .pre .1) (now (a .state)) (s .pre .1 .state),
-      in-groups (now (a .file)) (now (a .rec)) (a .l) (now (a .groups)) (now (a .blocks)) (now (a .rows)) (now (a .state)) (now (a .outputs)) (now (a .findings)) (s .pre .1),
+      in-place (s .pre) (now (a .state)) (s .pre .state),
+      in-groups (s .pre),
     ))
     (λ c. search needs)
     (λ c. search needs)
@@ -53,11 +52,12 @@ whole-cycle-spec =
     let k = v .before .before .before .before .before .before .before in
     let s = start-of k in
     let a = s .args in (
-      in-place (now (a .file)) (now (a .rec)) (a .l) (now (a .groups)) (now (a .blocks)) (now (a .rows)) (now (a .state)) (now (a .outputs)) (now (a .findings)) (s .pre .1) _
-          (ap length (v .advance .ensures .0) ∙ new-long (now (a .file)) (now (a .rec)) (now (a .state)) (accepted (now (a .file)) (s .pre .1 .accepted))),
+      in-place (s .pre) _
+          (ap length (v .advance .ensures .0)
+          ∙ new-long (now (a .groups)) (now (a .blocks)) (now (a .rec)) (now (a .state)) (s .pre .sound)),
       (
-        outputs-fit (now (a .file)) (now (a .rec)) (a .l) (now (a .groups)) (now (a .blocks)) (now (a .rows)) (now (a .state)) (now (a .outputs)) (now (a .findings)) (s .pre .1),
-        outputs-long (now (a .file)) (now (a .rec)) (a .l) (now (a .groups)) (now (a .blocks)) (now (a .rows)) (now (a .state)) (now (a .outputs)) (now (a .findings)) (s .pre .1),
+        outputs-fit (s .pre),
+        outputs-long (s .pre),
       ),
     ))
     (λ c. search needs)

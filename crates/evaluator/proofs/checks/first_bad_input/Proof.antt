@@ -1,5 +1,5 @@
--- `evaluator::checks::first_bad_input` meets its contract: the loop passes inputs whose word is of their type, and stops at the first other. The records
--- stand in I, and the words in the record.
+-- `evaluator::checks::first_bad_input` meets its contract: the loop passes inputs whose word is of their type, and
+-- stops at the first other. The records stand in I, and the words in the record.
 use mathlib.Core.Path.{_≡_}
 use Prim.Native.Nat.{_+_, _-_, _*_, _≤_, _<_}
 use native.Mathlib.Omega.{arith}
@@ -7,56 +7,57 @@ use borrow.Author.Needs.{needs}
 use lib.ListN.{length}
 use denote.Ref.{now}
 use Rattle.wire.proofs.Places.{Passed, begin, more, hit, done}
-use Rattle.casefile.specs.Layout.{inputCount}
-use Rattle.casefile.proofs.Placed.{is-inputs}
-use Rattle.evaluator.specs.Answer.{inputOk}
-use Rattle.evaluator.proofs.Checking.{few-groups, few-inputs, inputs-there, words-within, input-is}
+use Rattle.project.specs.Project.{inputCount, headSize, inputSize, wordSize}
+use Rattle.evaluator.specs.Answer.{inputFits}
+use Rattle.evaluator.proofs.Checking.{input-is}
 use Rattle.evaluator.proofs.checks.first_bad_input.Statement.{statement}
 use Rattle.evaluator.proofs.checks.first_bad_input.Tie as tie
 
 abbrev Inv-loop : tie.InvT-loop
-Inv-loop file inputs rec h n i₀ i = Passed (inputOk file rec) (inputCount file) i
+Inv-loop inputs rec h n i₀ i = Passed (inputFits h inputs rec) (inputCount inputs) i
 
 abbrev μ-loop : tie.MeasureT-loop
-μ-loop file inputs rec h n i₀ i = n - i
+μ-loop inputs rec h n i₀ i = n - i
 
 abbrev start-of : tie.At-loop Inv-loop μ-loop → tie.Start Inv-loop μ-loop
-start-of c = c .before .before .before .before
+start-of c = c .before .before .before
 
 -- input i's record ends in I, and its word in the record
 abbrev At : tie.In-loop Inv-loop μ-loop → Type 0
 At c =
     let a = start-of (c .before) .args in
     let i = c .before .loop .i in
-    (2 * i + 2 ≤ length (now (a .inputs))) × (2 + a .l .groups + 4 * i + 4 ≤ length (now (a .rec))) × (length (now (a .rec)) ≤ 1000)
+    (inputSize * i + inputSize ≤ length (now (a .inputs)))
+    × (headSize + a .c .groups + wordSize * i + wordSize ≤ length (now (a .rec)))
+    × (length (now (a .rec)) ≤ 1000)
 
 within : (c : tie.In-loop Inv-loop μ-loop) → At c
 within c =
     let s = start-of (c .before) in
-    let F = now (s .args .file) in
-    let body = inputs-there F (s .pre .0) (s .pre .1 .0) (now (s .args .inputs)) (s .pre .1 .1 .0) in
-    let words = words-within F (now (s .args .rec)) (s .pre .0) (s .pre .1 .1 .1) in
-    let groups = few-groups F (s .pre .0) (s .pre .1 .0) in
-    let inputs = few-inputs F (s .pre .0) (s .pre .1 .0) in
+    let small : s .args .c .inputs ≤ 128 = omega (arith, s .pre .0 .1) in
+    let groups = s .pre .0 .0 in
+    let body = s .pre .1 .0 in
+    let words = s .pre .1 .1 in
     (omega arith, omega arith, omega arith)
 
 -- the input's test
 abbrev turn-of : tie.After-word-ok Inv-loop μ-loop → tie.In-loop Inv-loop μ-loop
 turn-of c = c .before .before .before .before .before
 
-inside : (c : tie.In-loop Inv-loop μ-loop) → c .before .loop .i < inputCount (now (start-of (c .before) .args .file))
-inside c = let s = start-of (c .before) in omega (arith, c .loop-test .taken, is-inputs (now (s .args .file)) (s .pre .0))
+inside : (c : tie.In-loop Inv-loop μ-loop) → c .before .loop .i < inputCount (now (start-of (c .before) .args .inputs))
+inside c = let s = start-of (c .before) in omega (arith, c .loop-test .taken, s .pre .0 .1 .0)
 
 tested : (c : tie.After-word-ok Inv-loop μ-loop) →
     let l = turn-of c .before in
     let a = start-of l .args in
-    c .word-ok .result ≡ inputOk (now (a .file)) (now (a .rec)) (l .loop .i)
+    c .word-ok .result ≡ inputFits (a .c .groups) (now (a .inputs)) (now (a .rec)) (l .loop .i)
 tested c =
     let w = c .before .before in
     let t = turn-of c in
     let s = start-of (t .before) in
-    input-is (now (s .args .file)) (now (s .args .rec)) (s .pre .0) (now (s .args .inputs)) _ _ (t .before .loop .i) _ _ _ (s .pre .1 .0) (s .pre .1 .1 .0) (inside t)
-    (w .before .before .part-at .ensures) (c .before .input-type .ensures) (w .before .part-at2 .ensures) (w .read32 .ensures) (c .word-ok .ensures)
+    input-is (now (s .args .inputs)) (now (s .args .rec)) _ _ (s .args .c .groups) (t .before .loop .i) _ _ _
+    (w .before .before .part-at .ensures) (c .before .input-type .ensures) (w .before .part-at2 .ensures)
+    (w .read32 .ensures) (c .word-ok .ensures)
 
 pub first-bad-input-spec : {M : Type 1} → statement M
 first-bad-input-spec =
@@ -80,4 +81,4 @@ first-bad-input-spec =
     (λ c. let d = c .before in let t = turn-of d in more (t .before .loop .inv) (inside t) (tested d) (c .if1 .left))
     (λ c.
     let s = start-of (c .before) in
-    done (c .before .loop .inv) (omega (arith, is-inputs (now (s .args .file)) (s .pre .0)))))
+    done (c .before .loop .inv) (omega (arith, s .pre .0 .1 .0))))

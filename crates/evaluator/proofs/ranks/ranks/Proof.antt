@@ -4,30 +4,31 @@ use Prim.Native.Nat.{_-_, _<_}
 use native.Mathlib.Omega.{arith}
 use borrow.Author.Needs.{needs}
 use denote.Ref.{now}
-use Rattle.casefile.specs.Layout.{orderIn, orderOf}
+use Rattle.project.specs.Project.{orderIn, orderOf}
+use Rattle.evaluator.proofs.Reading.{record-is}
 use Rattle.evaluator.proofs.Ranking.{Ranking, ranking-start, ranking-turn, ranking-end}
 use Rattle.evaluator.proofs.ranks.ranks.Statement.{statement}
 use Rattle.evaluator.proofs.ranks.ranks.Tie as tie
 
 abbrev Inv-loop : tie.InvT-loop
-Inv-loop file blocks n at₀ b₀ at b = Ranking file n at b
+Inv-loop blocks n at₀ b₀ at b = Ranking blocks n at b
 
 abbrev μ-loop : tie.MeasureT-loop
-μ-loop file blocks n at₀ b₀ at b = n - b
+μ-loop blocks n at₀ b₀ at b = n - b
 
 -- the block's execution number
 order-is : (c : tie.After-order-of Inv-loop μ-loop) →
     let l = c .before .before .before in
-    c .order-of .result ≡ orderOf (now (l .before .before .before .args .file)) (l .loop .b)
+    c .order-of .result ≡ orderOf (now (l .before .before .args .blocks)) (l .loop .b)
 order-is c =
     let l = c .before .before .before in
-    let s = l .before .before .before in
-    c .order-of .ensures ∙ ap orderIn (c .before .part-at .ensures ∙ s .pre .each (l .loop .b) (c .before .before .loop-test .taken))
+    let s = l .before .before in
+    c .order-of .ensures ∙ ap orderIn (c .before .part-at .ensures ∙ record-is (now (s .args .blocks)) (l .loop .b))
 
 small : (c : tie.After-order-of Inv-loop μ-loop) → c .order-of .result < 64
 small c =
     let l = c .before .before .before in
-    let s = l .before .before .before in
+    let s = l .before .before in
     omega (arith, order-is c, s .pre .below (l .loop .b) (c .before .before .loop-test .taken), s .pre .few)
 
 pub ranks-spec : {M : Type 1} → statement M
@@ -37,8 +38,8 @@ ranks-spec =
     Inv-loop
     μ-loop
     (λ c. ranking-start _ _)
-    (λ c. omega (arith, c .loop-test .taken, c .before .before .before .before .pre .few))
-    (λ c κs. omega (arith, c .loop-test .taken, c .before .before .before .before .pre .long))
+    (λ c. omega (arith, c .loop-test .taken, c .before .before .before .pre .few))
+    (λ c κs. omega (arith, c .loop-test .taken, c .before .before .before .pre .long))
     (λ c κs. search needs)
     (λ c. search needs)
     (λ c. search needs)
@@ -47,10 +48,12 @@ ranks-spec =
     (λ c. search needs)
     (λ c.
     let l = c .before .before .before in
-    let s = l .before .before .before in
-    ranking-turn (now (s .args .file)) (now (s .args .blocks)) (s .args .n) (s .pre) (l .loop .at) (l .loop .b) _ _ (l .loop .inv) (c .before .before .loop-test .taken) (order-is c) refl)
+    let s = l .before .before in
+    ranking-turn (now (s .args .blocks)) (s .args .n) (s .pre) (l .loop .at) (l .loop .b) _ _ (l .loop .inv)
+    (c .before .before .loop-test .taken) (order-is c) refl)
     (λ c.
     let l = c .before in
-    let s = l .before .before .before in
+    let s = l .before .before in
     let end : l .loop .b ≡ s .args .n = omega (arith, l .loop .inv .within, c .loop-test .left) in
-    ranking-end (now (s .args .file)) (now (s .args .blocks)) (s .args .n) (s .pre) (l .loop .at) (subst (Ranking (now (s .args .file)) (s .args .n) (l .loop .at)) end (l .loop .inv))))
+    ranking-end (now (s .args .blocks)) (s .args .n) (s .pre) (l .loop .at)
+    (subst (Ranking (now (s .args .blocks)) (s .args .n) (l .loop .at)) end (l .loop .inv))))

@@ -1,172 +1,152 @@
--- `evaluator::turns::turn` meets its contract: where the block reads its inputs by `reading_turn`, else by a step that does not depend on them.
-use mathlib.Core.Path.{_≡_, refl, sym, ap, _∙_, subst}
-use Prim.Native.Nat.{ℕ, _+_, _*_, _≤_, _<_}
+-- `evaluator::turns::turn` meets its contract: by whether the block asks for its inputs.
+use mathlib.Core.Path.{_≡_, sym, ap, ap₂, _∙_}
+use mathlib.Core.List.{List}
+use Prim.Native.Nat.{ℕ, _+_, _*_}
 use native.Mathlib.Omega.{arith}
 use borrow.Author.Needs.{needs}
-use lib.ListN.{length}
-use lib.Seq.{sets}
 use denote.Ref.{now}
-use mathlib.Core.Bool.{false}
-use Rattle.wire.specs.Words.{byteAt, le16}
-use Rattle.casefile.specs.Layout.{blockRecord, kindIn, groupIn, groupOf, kindOf, parametersIn, parametersOf}
-use Rattle.block.specs.Inputs.{firstRead, secondRead}
-use Rattle.block.specs.Step.{stepOf, readsInputs}
-use Rattle.block.proofs.Bytes.{encode-length}
-use Rattle.block.proofs.Steps.{rests}
-use Rattle.evaluator.specs.Net.{words}
-use Rattle.evaluator.specs.Groups.{cell, isErrAck}
-use Rattle.evaluator.specs.Cycle.{wires}
-use Rattle.evaluator.specs.Fits.{Linked, Turning, phaseAt, turned, entering, noted}
-use Rattle.evaluator.proofs.Reading.{record-there, cell-there, control-there}
-use Rattle.evaluator.proofs.Turning.{Made, turned-is, entering-is, noted-not, quiet-step, quiet-enters}
+use lib.Seq.{sets}
+use Rattle.wire.specs.Words.{byteAt}
+use Rattle.kind.specs.Devices.{isErrAck}
+use Rattle.project.specs.Project.{groupIn, groupOf, blockRecord}
+use Rattle.block.specs.State.{stateSize}
+use Rattle.block.specs.Step.{asksInputs}
+use Rattle.evaluator.specs.State.{stateHead, cell}
+use Rattle.evaluator.specs.Groups.{controlByte}
+use Rattle.evaluator.specs.Asks.{phaseAt, Within, turned, entering, noted}
+use Rattle.evaluator.proofs.Reading.{cell-is, record-is, cell-there, record-there}
+use Rattle.evaluator.proofs.Turning.{left-is, noted-not, rest-turned, rest-quiet}
 use Rattle.evaluator.proofs.turns.turn.Statement.{statement}
 use Rattle.evaluator.proofs.turns.turn.Tie as tie
 
-abbrev begin-of : tie.After-slice-known2 → tie.Start
-begin-of c = c .before .before .before .before .before .before
+abbrev start-of : tie.After-part-at → tie.Start
+start-of c = c .before .before .before .before .before .before
 
-abbrev start-of : tie.After-err-ack → tie.Start
-start-of c = begin-of (c .before .before .before .before .before)
+-- the block's record, its group, its phase, its ErrAck
+here : (c : tie.After-part-at) →
+    let a = start-of c .args in now (c .part-at .result) ≡ blockRecord (now (a .blocks)) (a .b)
+here c = let a = start-of c .args in c .part-at .ensures ∙ record-is (now (a .blocks)) (a .b)
 
--- the block's record and its group
-record-is : (c : tie.After-part-at) → let a = begin-of (c .before) .args in now (c .part-at .result) ≡ blockRecord (now (a .file)) (a .b)
-record-is c = let s = begin-of (c .before) in c .part-at .ensures ∙ s .pre .0 .each (s .args .b) (s .pre .1 .inside)
+group : (c : tie.After-group-of) →
+    let a = start-of (c .before) .args in c .group-of .result ≡ groupOf (now (a .blocks)) (a .b)
+group c = c .group-of .ensures ∙ ap groupIn (here (c .before))
 
-group-is : (c : tie.After-group-of) → let a = begin-of (c .before .before) .args in c .group-of .result ≡ groupOf (now (a .file)) (a .b)
-group-is c = c .group-of .ensures ∙ ap groupIn (record-is (c .before))
+phase-is : (c : tie.After-byte-at) →
+    let a = start-of (c .before .before) .args in c .byte-at .result
+    ≡ phaseAt (now (a .blocks)) (now (a .phases)) (a .b)
+phase-is c =
+    let a = start-of (c .before .before) .args in
+    c .byte-at .ensures ∙ ap (byteAt (now (a .phases))) (group (c .before))
 
--- it is one of the h groups, and the block one of 64, whose bytes are there
-in-groups : (c : tie.After-group-of) → let a = begin-of (c .before .before) .args in (c .group-of .result < a .h) × (a .h ≤ 8)
-in-groups c =
-    let s = begin-of (c .before .before) in
-    (omega (arith, group-is c, s .pre .1 .group, s .pre .0 .heads), s .pre .0 .few)
+acked : (c : tie.After-err-ack) →
+    let a = start-of (c .before .before .before .before) .args in
+    c .err-ack .result ≡ isErrAck (controlByte (now (a .rec)) (groupOf (now (a .blocks)) (a .b)))
+acked c =
+    let a = start-of (c .before .before .before .before) .args in
+    c .err-ack .ensures
+    ∙ ap isErrAck (c .before .byte-at2 .ensures ∙ ap (controlByte (now (a .rec))) (group (c .before .before .before)))
 
-small : (s : tie.Start) → (s .args .b < 64) × (s .args .h ≤ 8)
-small s = (omega (arith, s .pre .1 .inside, s .pre .0 .fewBlocks), s .pre .0 .few)
+-- the block is there
+within : (s : tie.Start) → let a = s .args in Within (a .h) (a .b) (now (a .state))
+within s = (
+  omega (arith, s .pre .1 .inside, s .pre .0 .fewBlocks),
+  (s .pre .0 .few, cell-there (s .pre .0) (s .args .b) (s .pre .1 .inside)),
+)
 
-fits : (s : tie.Start) → s .args .h + 16 * s .args .b + 16 ≤ length (now (s .args .state))
-fits s = let a = s .args in cell-there (now (a .file)) (now (a .rec)) (now (a .blocks)) (now (a .state)) (a .h) (s .pre .0) (a .b) (s .pre .1 .inside)
-
-turning : (c : tie.After-err-ack) →
-    let a = start-of c .args in
-    Turning (now (a .file)) (now (a .rec)) (now (c .before .before .before .before .part-at .result)) (a .b) (c .err-ack .result)
-turning c =
-    let s = start-of c in
-    let a = s .args in
-    record {
-      here = record-is (c .before .before .before .before);
-      acked = c .err-ack .ensures ∙ ap isErrAck (c .before .byte-at2 .ensures ∙ ap (λ (g : ℕ). byteAt (now (a .rec)) (2 + g)) (group-is (c .before .before .before)));
-      inside = s .pre .1 .inside;
-    }
-
-phase-is : (c : tie.After-err-ack) → let a = start-of c .args in c .before .before .byte-at .result ≡ phaseAt (now (a .file)) (now (a .phases)) (a .b)
-phase-is c = c .before .before .byte-at .ensures ∙ ap (byteAt (now (start-of c .args .phases))) (group-is (c .before .before .before))
+-- whether it asks
+asks-is : (c : tie.After-asks) →
+    let k = c .before .before .before in
+    let a = start-of (k .before .before .before .before) .args in
+    c .asks .result
+    ≡ asksInputs (k .before .before .byte-at .result)
+    (isErrAck (controlByte (now (a .rec)) (groupOf (now (a .blocks)) (a .b))))
+    (cell (a .h) (now (a .state)) (a .b))
+asks-is c =
+    let k = c .before .before .before in
+    let a = start-of (k .before .before .before .before) .args in
+    c .asks .ensures
+    ∙ ap₂ (asksInputs (k .before .before .byte-at .result)) (acked k)
+    (c .before .part-at2 .ensures ∙ cell-is (a .h) (now (a .state)) (a .b))
 
 returns : tie.Need-returns
 returns c =
     let r = c .before .before .before .before in
-    let k = r .before .before .before .before .before .before .before .before in
-    let a = start-of k .args in
-    let p = phase-is k in (
-      r .reading-turn .ensures .0 ∙ ap (λ (q : ℕ). sets (now (a .state)) (a .h + 16 * a .b) (turned (now (a .file)) (now (a .rec)) q (now (a .state)) (a .b))) p,
+    let k = r .before .before .before .before .before .before .before in
+    let a = start-of (k .before .before .before .before) .args in
+    let p = phase-is (k .before .before) in
+    let e = r .reading-turn .ensures in
+    let at : ℕ → List ℕ = λ q. turned (a .h) (now (a .blocks)) (now (a .rec)) q (now (a .state)) (a .b) in (
+      e .0 ∙ ap (λ (q : ℕ). sets (now (a .state)) (stateHead (a .h) + stateSize * a .b) (at q)) p,
       (
-        r .reading-turn .ensures .1 .0 ∙ ap (λ (q : ℕ). noted (now (a .file)) (now (a .rec)) q (now (a .state)) (a .b) (now (a .findings))) p,
-        r .reading-turn .ensures .1 .1 ∙ ap (λ (q : ℕ). entering (now (a .file)) (now (a .rec)) q (now (a .state)) (a .b)) p,
+        e .1 .0
+            ∙ ap (λ (q : ℕ). noted (a .h) (now (a .blocks)) (now (a .rec)) q (now (a .state)) (a .b)
+            (now (a .findings))) p,
+        e .1 .1 ∙ ap (λ (q : ℕ). entering (a .h) (now (a .blocks)) (now (a .rec)) q (now (a .state)) (a .b)) p,
       ),
     )
-
--- the places before the bytes of a quiet step were made
-abbrev acked-of : tie.After-pack → tie.After-err-ack
-acked-of c = c .before .before .before .before .before .before .before
-
--- the step does not read the block's inputs
-quiet : (c : tie.Else1) → let k = c .before .before .before .before .before in readsInputs (k .before .before .byte-at .result) (c .before .before .load .result .code) (k .err-ack .result) ≡ false
-quiet c = sym (c .before .reads-inputs .ensures) ∙ c .if1 .left
-
--- and is the one of any inputs, 0 and 0 among them
-rested : (c : tie.After-pack) →
-    let k = acked-of c in
-    let Q = now (k .before .before .before .before .part-at .result) in
-    c .before .rest .result
-    ≡ stepOf (kindIn Q) (parametersIn Q) (k .before .before .byte-at .result) (k .err-ack .result) (le16 (now (start-of k .args .rec)) 0) 0 0 (c .before .before .before .before .load .result)
-rested c =
-    let k = acked-of c in
-    let Q = now (k .before .before .before .before .part-at .result) in
-    c .before .rest .ensures
-    ∙ rests (kindIn Q) (parametersIn Q) (k .before .before .byte-at .result) (k .err-ack .result) (le16 (now (start-of k .args .rec)) 0) 0 0 (c .before .before .before .before .load .result) (quiet (c .before .before))
-
-made : (c : tie.After-pack) →
-    let k = acked-of c in
-    let a = start-of k .args in
-    let Q = now (k .before .before .before .before .part-at .result) in
-    let l = c .before .before .before .before in
-    Made (now (a .file)) (now (a .rec)) (now (a .state)) Q (a .h) (k .before .before .byte-at .result) (a .b) (k .err-ack .result) (kindIn Q) (le16 (now (a .rec)) 0)
-    (firstRead (kindOf (now (a .file)) (a .b)) (parametersOf (now (a .file)) (a .b)) (words (wires (now (a .file)) (now (a .rec))) (cell (now (a .file)) (now (a .state))) (a .b)))
-    (secondRead (kindOf (now (a .file)) (a .b)) (parametersOf (now (a .file)) (a .b)) (words (wires (now (a .file)) (now (a .rec))) (cell (now (a .file)) (now (a .state))) (a .b)))
-    (parametersIn Q) (now (l .before .part-at2 .result)) (c .pack .result) (l .load .result) (c .before .rest .result)
-made c =
-    let k = acked-of c in
-    let s = start-of k in
-    let l = c .before .before .before .before in
-    record {
-      heads = s .pre .0 .heads;
-      few = small s .0;
-      turning = turning k;
-      kind = refl;
-      parameters = refl;
-      time = refl;
-      part = l .before .part-at2 .ensures;
-      loaded = l .load .ensures;
-      first = refl;
-      second = refl;
-      stepped = quiet-step _ _ _ _ _ _ _ (quiet (c .before .before)) (rested c) _ _;
-      packed = c .pack .ensures;
-    }
 
 returns-2 : tie.Need-returns-2
 returns-2 c =
-    let q = c .before .before in
-    let p = q .before .before .before in
-    let k = acked-of p in
-    let a = start-of k .args in
-    let m = made p in
-    let e = entering-is m _ (quiet-enters _ _ _ _ _ _ _ (quiet (p .before .before)) (rested p)) in
-    let f = phase-is k in (
-      q .put-at .ensures ∙ ap (sets (now (a .state)) (a .h + 16 * a .b)) (turned-is m)
-          ∙ ap (λ (j : ℕ). sets (now (a .state)) (a .h + 16 * a .b) (turned (now (a .file)) (now (a .rec)) j (now (a .state)) (a .b))) f,
-      (
-        noted-not m (now (a .findings)) (sym e) ∙ ap (λ (j : ℕ). noted (now (a .file)) (now (a .rec)) j (now (a .state)) (a .b) (now (a .findings))) f,
-        e ∙ ap (λ (j : ℕ). entering (now (a .file)) (now (a .rec)) j (now (a .state)) (a .b)) f,
-      ),
-    )
+    let r = c .before .before in
+    let d = r .before .before in
+    let k = d .before .before .before .before in
+    let s = start-of (k .before .before .before .before) in
+    let a = s .args in
+    let p = phase-is (k .before .before) in
+    let quiet = sym (asks-is (d .before)) ∙ d .if1 .left in
+    let e =
+    rest-turned (a .h) (now (a .blocks)) (now (a .rec)) (now (a .state)) (a .b) _ quiet _ (acked k)
+    ∙ ap (λ (q : ℕ). turned (a .h) (now (a .blocks)) (now (a .rec)) q (now (a .state)) (a .b)) p
+    in
+    let none =
+    ap (λ (q : ℕ). entering (a .h) (now (a .blocks)) (now (a .rec)) q (now (a .state)) (a .b)) (sym p)
+    ∙ rest-quiet (a .h) (now (a .blocks)) (now (a .rec)) (now (a .state)) (a .b) _ quiet
+    in
+    (left-is _ _ _ _ _ _ e (within s .1 .1) _ (r .rest .ensures), (noted-not _ _ _ _ _ _ _ none, sym none))
 
 pub turn-spec : {M : Type 1} → statement M
 turn-spec =
     tie.close
     (tie.spec
-    (λ c. omega (arith, small (begin-of c)))
-    (λ c κs. let s = begin-of c in record-there (now (s .args .file)) (now (s .args .rec)) (now (s .args .blocks)) (now (s .args .state)) (s .args .h) (s .pre .0) _ (s .pre .1 .inside))
+    (λ c. omega (arith, within (c .before .before .before .before .before)))
+    (λ c κs. let s = c .before .before .before .before .before in record-there (s .pre .0) _ (s .pre .1 .inside))
     (λ c κs. search needs)
     (λ c. search needs)
-    (λ c κs. omega (arith, in-groups c, begin-of (c .before .before) .pre .1 .phases))
-    (λ c. omega (arith, in-groups (c .before)))
-    (λ c κs. let s = begin-of (c .before .before .before) in control-there (now (s .args .file)) (now (s .args .rec)) (now (s .args .blocks)) (now (s .args .state)) (s .args .h) (s .pre .0) _ (s .pre .1 .linked .long) (in-groups (c .before) .0))
+    (λ c κs.
+    let s = start-of (c .before) in
+    rw (group c) (omega (arith, s .pre .1 .group, s .pre .0 .few, s .pre .1 .phases)))
+    (λ c. search needs)
+    (λ c κs.
+    let s = start-of (c .before .before) in
+    rw (group (c .before)) (omega (arith, s .pre .1 .group, s .pre .1 .linked .long)))
     (λ c κs. search needs)
-    (λ c. omega (arith, small (start-of c)))
-    (λ c. omega (arith, small (start-of c)))
-    (λ c κs. fits (start-of (c .before)))
-    (λ c κs. search needs)
+    (λ c. omega (arith, within (start-of (c .before .before .before .before))))
+    (λ c. omega (arith, within (start-of (c .before .before .before .before))))
+    (λ c. omega (arith, within (start-of (c .before .before .before .before))))
+    (λ c. omega (arith, within (start-of (c .before .before .before .before))))
+    (λ c κs. within (start-of (c .before .before .before .before .before)) .1 .1)
     (λ c κs. search needs)
     (λ c κs.
-    let k = c .before .before .before .before .before .before .before in
-    let s = start-of k in
-    (s .pre .0, (subst (Linked (now (s .args .file)) (now (s .args .rec))) (sym (turning k .here)) (s .pre .1 .linked), turning k)))
+    let t = c .before .before in
+    let k = t .before .before .before .before in
+    let o = k .before .before .before .before in
+    let s = start-of o in (
+      s .pre .0,
+      (
+        rw (here o) (s .pre .1 .linked),
+        (
+          record { here = here o; inside = s .pre .1 .inside; asks = sym (asks-is (t .before)) ∙ t .if1 .taken },
+          within
+              s,
+        ),
+      ),
+    ))
     (λ c. search needs)
     (λ c. search needs)
     returns
-    (λ c κs. search needs)
-    (λ c κs. search needs)
     (λ c. search needs)
-    (λ c κs. let p = c .before .before in omega (arith, fits (start-of (acked-of p)), ap length (p .pack .ensures) ∙ encode-length (p .before .rest .result)))
+    (λ c. search needs)
+    (λ c. search needs)
+    (λ c κs. search needs)
     (λ c. search needs)
     returns-2)

@@ -1,0 +1,12 @@
+-- `kind::is_within` meets its contract.
+use mathlib.Core.Path.{refl}
+use Rattle.kind.specs.Masks.{isWithin}
+use Rattle.kind.proofs.devices.is_within.Statement.{statement}
+use Rattle.kind.proofs.devices.is_within.Tie as tie
+
+pub is-within-spec : {M : Type 1} → statement M
+unfolding isWithin
+is-within-spec =
+    tie.close
+    (tie.spec
+    (λ c. refl))

@@ -1,0 +1,5 @@
+pub mod Records
+pub mod Counted
+pub mod Onto
+pub mod Orders
+pub mod Alike
