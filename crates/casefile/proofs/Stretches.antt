@@ -1,4 +1,4 @@
--- The stretch that the file's own starts give is the body (`Layout`).
+-- The stretch that the file's own starts give is the body (`contents`, `bodyOf`).
 use mathlib.Core.Path.{_≡_, refl, ap}
 use Prim.Native.Nat.{ℕ, zero, suc}
 use mathlib.Core.List.{List}
