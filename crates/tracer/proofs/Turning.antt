@@ -6,7 +6,7 @@ use mathlib.Core.List.{List, [], _∷_}
 use Prim.Native.Nat.{ℕ, suc, _+_, _-_, _%_, _≤_, _<_}
 use native.Mathlib.Nat.{sub-zero}
 use native.Mathlib.Omega.{arith}
-use lib.ListN.{length, drop, length-replicate}
+use lib.ListN.{drop, length-replicate}
 use lib.Seq.{drop-drop}
 use Rattle.wire.specs.Tables.{first}
 use Rattle.casefile.specs.Bodies.{projectOf, recordCount, recordOf}
@@ -76,11 +76,7 @@ ran {F} {n} {k} h l f g = (
         let no : n - k ≡ 0 = omega arith in
         h .left ∙ ap (λ (m : ℕ). run F (recordsFrom F k m) (h .lent)) no
 
--- the number with which a step turns a record down
-down : (b : Bool) (m : ℕ) {n : ℕ} → Refused n ≡ cond b (Findings m) (Refused 12) → 12 ≡ n
-down true m e = let z : _≡_ {A = ℕ} 0 1 = cc in absurd (omega arith)
-down false m e = cc
-
+-- what the findings were before does not matter to a step that takes its record
 found-some : (b : Bool) (m : ℕ) {n : ℕ} → Findings n ≡ cond b (Findings m) (Refused 12) →
     (X D Y : List ℕ) → cond b X D ≡ cond b X Y
 found-some true m e X D Y = refl
@@ -98,7 +94,6 @@ pub record Turned (l : Left) (a : Answer) (S D : List ℕ) : Type 0 where
   pub answer : a ≡ l .answer
   pub state : S ≡ l .lent .state
   pub findings : {m : ℕ} → a ≡ Findings m → D ≡ l .lent .findings
-  pub number : {m : ℕ} → a ≡ Refused m → 12 ≡ m
 
 -- cycle k
 module _ {F : List ℕ} {n k t : ℕ} {S : List ℕ} (z : first (fileTable F) ≡ 0) (h : Here F n k t S) where
@@ -116,7 +111,6 @@ module _ {F : List ℕ} {n k t : ℕ} {S : List ℕ} (z : first (fileTable F) �
     findings = λ y.
         d ∙ found-some (recordOk G I R) (findingCount G B R S) (sym y ∙ e) (newFindings G B R S) D (h .lent .findings)
         ∙ (λ j. stepFindings (g j) (i j) (b j) (r j) (h .state j) (h .lent .findings)) ∙ sym (made .findings);
-    number = λ y. down (recordOk G I R) (findingCount G B R S) (sym y ∙ e);
   }
 
 module _ {F : List ℕ} {n k t : ℕ} {S : List ℕ} (h : Here F n k t S) (l : k < n) where
@@ -164,8 +158,5 @@ module _ {F : List ℕ} {n k t : ℕ} {S : List ℕ} (h : Here F n k t S) (l : k
 
   -- one that is turned down
   pub stops : {a : Answer} {m : ℕ} {S1 D1 : List ℕ} → a ≡ Refused m → Turned (call F k (h .lent)) a S1 D1 →
-      (Halted 12 ≡ runEnd F) × (S1 ≡ stateAfter F)
-  stops e u = (
-    ap Halted (u .number e) ∙ ends-by (sym e ∙ u .answer),
-    u .state ∙ leaves-by (sym e ∙ u .answer),
-  )
+      (Halted m ≡ runEnd F) × (S1 ≡ stateAfter F)
+  stops e u = (ends-by (sym e ∙ u .answer), u .state ∙ leaves-by (sym e ∙ u .answer))

@@ -138,8 +138,9 @@ fn run(
             findings,
         );
         done += 1;
-        let Answer::Findings(k) = answer else {
-            return End::Refused(12);
+        let k = match answer {
+            Answer::Findings(k) => k,
+            Answer::Refused(number) => return End::Refused(number),
         };
         print_findings(file, blocks, low(done as u64), k, findings);
         total = (total + (k as u64)) % 4294967296;

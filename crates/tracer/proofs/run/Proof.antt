@@ -1,8 +1,7 @@
 -- `tracer::run` meets its contract: before each turn the calls that are left are a run from the present state, and a
 -- turn takes the first of them.
 use mathlib.Core.Path.{_≡_, refl, sym, ap, _∙_}
-use mathlib.Core.List.{List}
-use Prim.Native.Nat.{ℕ, _-_, _≤_, _<_}
+use Prim.Native.Nat.{_-_, _≤_, _<_}
 use native.Mathlib.Omega.{arith}
 use borrow.Author.Needs.{needs}
 use lib.ListN.{length}
@@ -138,8 +137,8 @@ loop-again c =
 -- a record is turned down
 returns : tie.Need-returns Inv-loop μ-loop
 returns c =
-    let v = c .before .before .before .before .before .before in
-    stops (loop-of v .loop .inv .4) (testing v) (c .enum-told .given .1) (done-by v)
+    let v = c .before .before .before .before .before .before .before in
+    stops (loop-of v .loop .inv .4) (testing v) (c .before .answer2 .given .1) (done-by v)
 
 -- or all have run
 returns-2 : tie.Need-returns-2 Inv-loop μ-loop
@@ -164,8 +163,12 @@ run-spec =
     (λ c. let v = c .before .before .before .before in omega (arith, testing v, loop-of v .before .record-count .ok))
     (λ c. search needs)
     (λ c. search needs)
-    (λ c. let v = c .before .before .before .before .before .before in state-long v ∙ loop-of v .loop .inv .2)
-    (λ c. let v = c .before .before .before .before .before .before in findings-long v ∙ loop-of v .loop .inv .3)
+    (λ c.
+    let v = c .before .before .before .before .before .before .before in
+    state-long v ∙ loop-of v .loop .inv .2)
+    (λ c.
+    let v = c .before .before .before .before .before .before .before in
+    findings-long v ∙ loop-of v .loop .inv .3)
     returns
     (λ c κs. search needs)
     print-requires
