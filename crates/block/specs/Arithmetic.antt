@@ -15,7 +15,8 @@ use Rattle.kind.specs.Parameters.{firstType, secondType, outputType, roundingBy
 use Rattle.block.specs.State.{inError, running}
 use Rattle.block.specs.declared.BlockState.{BlockState}
 
--- 01, "The case file": of the arithmetic kinds, 3 ADD, 4 SUB, 5 MUL, and 6 DIV, which alone has a rounding
+-- 01, "The case file": of the arithmetic kinds, 3 ADD, 4 SUB, 5 MUL, and 6 DIV, which alone has a rounding. There is no
+-- fifth
 unfoldable pub opOf : ℕ → ℕ → Op
 opOf k rounding = cond (eqb k ADD) Add (cond (eqb k SUB) Sub (cond (eqb k MUL) Mul (Div (roundingOf rounding))))
 

@@ -1,5 +1,6 @@
 -- Demand 1: a call is turned down with the number of the first rule of its table that is not kept, exactly then, and
--- leaves what it was lent as it was. The call's number is the table's by definition. Assumes nothing.
+-- leaves what it was lent as it was; the table's numbers rise. The call's number is the table's by definition. Assumes
+-- nothing.
 use mathlib.Core.Path.{_≡_, refl, sym, ap, _∙_, subst}
 use mathlib.Core.Bool.{Bool, true, false, true≢false}
 use mathlib.Core.Logic.{_≢_}
@@ -9,12 +10,13 @@ use native.Mathlib.Decide.{ℕ-discrete}
 use Rattle.wire.specs.Tables.{FirstIn, AllKept}
 use Rattle.wire.proofs.Tables.{first-zero, first-some, first-in, kept-not}
 use Rattle.casefile.specs.Bodies.{projectOf}
+use Rattle.casefile.specs.Refusal.{fileTable}
 use Rattle.evaluator.specs.declared.Answer.{Answer}
 use Rattle.evaluator.specs.declared.Answer.the-variants.{Findings, Refused}
 use Rattle.evaluator.specs.Cycle.{findingCount}
 use Rattle.evaluator.specs.Answer.{Lent, Left, callTable, refusal, cycleOf, numberIn}
 use Rattle.evaluator.proofs.Calls.{table-numbered, call-refused, call-done}
-use Rattle.demands.specs.Demands.{Answered, Demand1}
+use Rattle.demands.specs.Demands.{rising, Answered, Demand1}
 
 -- an answer that is the count of findings is no refusal
 isRefused : Answer → Bool
@@ -22,6 +24,10 @@ isRefused (Findings k) = false
 isRefused (Refused n) = true
 
 module _ (F R : List ℕ) (L : Lent) where
+  in-order : rising 1 (callTable F R L) ≡ true
+  unfolding rising callTable fileTable
+  in-order = refl
+
   -- a call whose every rule is kept
   when-kept : refusal F R L ≡ 0 → Answered F R L
   unfolding isRefused refusal
@@ -29,6 +35,7 @@ module _ (F R : List ℕ) (L : Lent) where
     refused = λ n. (λ e. absurd (true≢false (sym (ap isRefused (sym done ∙ e)))), λ f. absurd (kept-not kept f));
     untouched = λ n e. absurd (true≢false (sym (ap isRefused (sym done ∙ e))));
     accepted = (λ _. kept, λ _. done);
+    lowest = in-order;
   }
     where
       kept : AllKept (callTable F R L)
@@ -48,6 +55,7 @@ module _ (F R : List ℕ) (L : Lent) where
     );
     untouched = λ m e. ap (λ (l : Left). l .lent) whole;
     accepted = (λ e. absurd (true≢false (ap isRefused (sym turned ∙ e))), λ h. absurd (kept-not h broken));
+    lowest = in-order;
   }
     where
       broken : FirstIn (callTable F R L) (refusal F R L)

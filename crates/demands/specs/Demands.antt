@@ -6,11 +6,12 @@
 use Prim.Native.Nat.{ℕ, _*_, _≤_, _<_}
 use mathlib.Core.Path.{_≡_}
 use mathlib.Core.Logic.{_↔_}
-use mathlib.Core.Bool.{true}
-use mathlib.Core.List.{List}
+use mathlib.Core.Bool.{Bool, true, _&&_}
+use mathlib.Core.List.{List, [], _∷_}
+use lib.Dec.{leb}
 use Rattle.wire.specs.Words.{byteAt}
 use Rattle.wire.specs.Records.{slot}
-use Rattle.wire.specs.Tables.{FirstIn, AllKept}
+use Rattle.wire.specs.Tables.{Row, FirstIn, AllKept}
 use Rattle.project.specs.Project.{Project, groupCount, blockCount, kindOf, groupOf, orderOf}
 use Rattle.project.specs.Alike.{Alike}
 use Rattle.casefile.specs.declared.Verdict.the-variants.{Accepted}
@@ -30,6 +31,12 @@ use Rattle.evaluator.specs.Fresh.{freshFor}
 
 -- ---- demand 1: the first rule in the order that is not kept, exactly then
 
+-- 01, "Turned down": the rules stand in the order of their numbers, so that the first is the lowest. No number of the
+-- rows is below the one before it, nor the first below n
+unfoldable pub rising : ℕ → List Row → Bool
+rising n [] = true
+rising n (r ∷ rs) = leb n (r .number) && rising (r .number) rs
+
 -- 01, "Turned down": the lowest number wins; refused, a call writes nothing and returns the number; accepted, it
 -- returns the count of findings. `callTable F R L` has the rules of a call in their order, each with its number
 pub record Answered (F R : List ℕ) (L : Lent) : Type 0 where
@@ -38,6 +45,7 @@ pub record Answered (F R : List ℕ) (L : Lent) : Type 0 where
   pub accepted :
       (cycleOf F R L .answer ≡ Findings (findingCount (projectOf F .groups) (projectOf F .blocks) R (L .state)))
       ↔ AllKept (callTable F R L)
+  pub lowest : rising 1 (callTable F R L) ≡ true
 
 -- 01, "What the reviewer must be able to rely on": demand 1's "exactly then", for every file, record, state, outputs
 -- and findings

@@ -1,6 +1,6 @@
--- What private functions ask of each other; nothing here has to be believed. A cycle call has checked all of it before
--- it runs a cycle (01, "Turned down"). G, B and O are bodies of a project, h is how many groups it has, R a record, S a
--- state.
+-- What functions inside a cycle ask of each other, and what the three functions for a trace require and give
+-- (DECISIONS 29). Whoever calls `cycle` need not believe it: a call has checked all of it before it runs a cycle (01,
+-- "Turned down"). G, B and O are bodies of a project, h is how many groups it has, R a record, S a state.
 use Prim.Native.Nat.{ℕ, _+_, _*_, _<_, _≤_}
 use mathlib.Core.Path.{_≡_}
 use mathlib.Core.List.{List, [], _∷_}

@@ -1,5 +1,5 @@
--- What private functions ask of each other; nothing here has to be believed. The checks of a file give a cycle these
--- facts of its bodies G, B and O (01, "Turned down", 3 to 8).
+-- What functions inside a cycle, and those for a trace (DECISIONS 29), ask of a project. Whoever calls `cycle` need not
+-- believe it: the checks of a file give these facts of its bodies G, B and O (01, "Turned down", 3 to 8).
 use Prim.Native.Nat.{ℕ, _*_, _<_, _≤_}
 use mathlib.Core.Path.{_≡_}
 use mathlib.Core.Bool.{true}

@@ -1,6 +1,6 @@
 // A project is its four bodies G, I, B and O, each a slice (01, "The case file"). Here are the records in them, the
-// records' fields, and how many there are: nothing else in the product says where a byte of a record stands. Every
-// function is total: a byte past the end reads as 0, and a record past the end is empty.
+// records' fields, and how many there are; where a parameter byte stands is said in `kind`. Every function is total: a
+// byte past the end reads as 0, and a record past the end is empty.
 ghost use mathlib.Core.Path.{_≡_};
 ghost use Rattle.project.specs.Project.{rowOf, device, groupCount, runLinked, inputSize, inputGroupIn};
 ghost use Rattle.project.specs.Project.{inputTypeIn};

@@ -1,5 +1,5 @@
 -- What a trace is (01, "The trace program"): a run of cycle calls over the records of the file, each once and in their
--- order, from the fresh state, up to the first record that is turned down. F is the file.
+-- order, from the fresh state. What it tells of them ends at the first that is turned down. F is the file.
 use Prim.Native.Nat.{ℕ, zero, suc, _+_, _%_}
 use mathlib.Core.Path.{_≡_}
 use mathlib.Core.List.{List, [], _∷_}
