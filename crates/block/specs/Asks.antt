@@ -4,7 +4,7 @@ use mathlib.Core.Path.{_≡_}
 use mathlib.Core.Bool.{false}
 use Rattle.block.specs.Twohand.{firstPair, secondPair, differs}
 
--- no pair of the effective mask x differs
+-- 01, "TWOHAND.": no pair of the effective mask x differs
 pub record Even (active x : ℕ) : Type 0 where
   pub first : differs (firstPair active) (firstPair x) ≡ false
   pub second : differs (secondPair active) (secondPair x) ≡ false
