@@ -1,9 +1,10 @@
 // The library over a pipe, for tools in any language and for tests. Requests stand on standard input, and each is
 // answered at once on standard output, until the input ends. All numbers are little endian; a buffer is its length
 // (32-bit) and its bytes.
-//     C (0x43), a file: one byte, 0 for accepted or the refusal's number Y (0x59), a file, a record, a state, outputs,
-//     findings: one byte, 0 or the refusal's number; the count of findings (32-bit, 0 if refused); state, outputs and
-//     findings as they are after the call, in the lengths that they came with
+//     C (0x43), a file: one byte, 0 for accepted or the refusal's number
+//     Y (0x59), a file, a record, a state, outputs, findings: one byte, 0 or the refusal's number; the count of
+//     findings (32-bit, 0 if refused); state, outputs and findings as they are after the call, in the lengths that
+//     they came with
 // A buffer that there is no room for, another letter, or an end in the middle of a request ends the program with a
 // line on standard error; answers already given stand.
 ghost use Rattle.io.specs.Counts.{Counts};
