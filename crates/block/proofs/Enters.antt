@@ -1,10 +1,6 @@
 -- Which steps enter ERROR, by where they end.
 -- Assumes nothing.
-use mathlib.Core.Path.{_≡_, refl}
-use mathlib.Core.Bool.{Bool, true, false, not, cond, _&&_}
-use mathlib.Core.List.{List}
-use Prim.Native.Nat.{ℕ}
-use lib.Dec.{eqb}
+use Rattle.wire.proofs.Usual.{_≡_, refl, Bool, true, false, not, cond, _&&_, List, ℕ, eqb}
 use Rattle.wire.proofs.Places.{both-left}
 use Rattle.block.specs.State.{RESET, STOP, plain, inError, running, encode, decode, codeOf, diagnosisOf}
 use Rattle.block.specs.State.{freshBytes, isError, entersFrom}

@@ -1,15 +1,10 @@
 -- TWOHAND's effective mask and the test that no pair differs, by operations on whole masks of four bits. Each is one
 -- test that antt computes over all of them.
 -- Assumes nothing.
-use mathlib.Core.Path.{_≡_, refl, _∙_}
-use mathlib.Core.Bool.{Bool, true, false, not, _&&_, _||_}
-use Prim.Native.Nat.{ℕ, _+_, _*_, _/_, _%_, _<_}
+use Rattle.wire.proofs.Usual.{_≡_, refl, _∙_, Bool, true, false, not, _&&_, _||_, ℕ, _+_, _*_, _/_, _%_, _<_}
+use Rattle.wire.proofs.Usual.{decLt, arith, eqb-true, ltb-true, ne-eqb, not-true, eqb, ltb}
 use native.Mathlib.Nat.{mod-eq-of-lt}
-use native.Mathlib.Decide.{decLt}
-use native.Mathlib.Omega.{arith}
-use borrow.Author.Tests.{eqb-true, ltb-true, ne-eqb, not-true}
 use lib.Bits.{bitAnd, bitXor}
-use lib.Dec.{eqb, ltb}
 use Rattle.wire.specs.Places.{firstBad, all}
 use Rattle.wire.proofs.Places.{all-each, both-left, both-right}
 use Rattle.block.specs.Inputs.{effectiveBit, effectiveBits}

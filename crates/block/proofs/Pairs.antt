@@ -2,9 +2,7 @@
 -- their effective values are true: the pair's bits are then those of the inputs that are both. Full is: each active
 -- input is true. Differing is: both are active, and one is true alone.
 -- Assumes nothing.
-use mathlib.Core.Path.{_≡_, refl}
-use mathlib.Core.Bool.{Bool, true, false, not, _&&_, _||_}
-use Prim.Native.Nat.{ℕ, _+_}
+use Rattle.wire.proofs.Usual.{_≡_, refl, Bool, true, false, not, _&&_, _||_, ℕ, _+_}
 use Rattle.block.specs.State.{onlyIf}
 use Rattle.block.specs.Twohand.{isFull, differs}
 

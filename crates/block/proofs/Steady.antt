@@ -1,13 +1,8 @@
 -- TWOHAND where no pair differs and none is waited for: no time is counted and there is no error, so it takes the
 -- transition.
 -- Assumes nothing.
-use mathlib.Core.Path.{_≡_, refl}
-use mathlib.Core.Bool.{Bool, true, false, cond, _&&_}
-use mathlib.Core.List.{List}
-use Prim.Native.Nat.{ℕ, _+_, _%_}
-use native.Mathlib.Omega.{arith}
+use Rattle.wire.proofs.Usual.{_≡_, refl, Bool, true, false, cond, _&&_, List, ℕ, _+_, _%_, arith, eqb, ltb}
 use borrow.Author.Tests.{le-ltb}
-use lib.Dec.{eqb, ltb}
 use Rattle.kind.specs.Parameters.{activeMask, limitsOf}
 use Rattle.kind.specs.declared.Limits.{Limits}
 use Rattle.block.specs.State.{onlyIf, isWaiting, plain, encode, entersFrom}

@@ -1,6 +1,5 @@
 -- The family of a block's record, once the code has told it. Assumes nothing.
-use mathlib.Core.Path.{_≡_, sym, ap, _∙_}
-use Prim.Native.Nat.{ℕ}
+use Rattle.wire.proofs.Usual.{_≡_, sym, ap, _∙_, ℕ}
 use Rattle.kind.specs.declared.Family.{Family}
 use Rattle.kind.specs.Kinds.{familyOf}
 

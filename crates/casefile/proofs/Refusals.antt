@@ -1,15 +1,11 @@
 -- The table of refusals of a file: what a rule at a place is, what the rules passed so far give to the next, and what
 -- the answer says of all of them. None names a place of the table. Assumes nothing.
-use mathlib.Core.Path.{_≡_, refl, sym, ap, _∙_, subst}
-use mathlib.Core.Bool.{Bool, true, false, cond, not, _||_, true≢false}
-use mathlib.Core.Logic.{_≢_}
-use mathlib.Core.List.{List, [], _∷_, map}
-use Prim.Native.Nat.{ℕ, zero, suc, _<_, _≤_}
+use Rattle.wire.proofs.Usual.{_≡_, refl, sym, ap, _∙_, subst, Bool, true, false, cond, not, _||_, true≢false}
+use Rattle.wire.proofs.Usual.{_≢_, List, [], _∷_, ℕ, zero, suc, _<_, _≤_, arith, ne-eqb, eqb-true, lt-ltb}
+use Rattle.wire.proofs.Usual.{ltb-true, eqb, ltb, length}
+use mathlib.Core.List.{map}
 use native.Mathlib.Nat.{not-suc-le-zero, le-of-suc-le-suc}
-use native.Mathlib.Omega.{arith}
-use borrow.Author.Tests.{ne-eqb, eqb-true, lt-ltb, ltb-true}
-use lib.Dec.{eqb, ltb}
-use lib.ListN.{length, getD}
+use lib.ListN.{getD}
 use Rattle.wire.specs.Places.{firstBad, all}
 use Rattle.wire.proofs.Places.{Passed, found, all-each}
 use Rattle.wire.specs.Tables.{Row, first, rowAt}

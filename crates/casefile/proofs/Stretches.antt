@@ -1,10 +1,5 @@
 -- The stretch that the file's own starts give is the body (`contents`, `bodyOf`).
-use mathlib.Core.Path.{_≡_, refl, ap}
-use Prim.Native.Nat.{ℕ, zero, suc}
-use mathlib.Core.List.{List}
-use lib.ListN.{take, drop}
-use native.Mathlib.Omega.{arith}
-use borrow.Author.Tests.{ne-eqb}
+use Rattle.wire.proofs.Usual.{_≡_, refl, ap, ℕ, zero, suc, List, take, drop, arith, ne-eqb}
 use Rattle.contents.specs.Contents.{bodyStart, bodySize, bodyOf}
 use Rattle.casefile.specs.Asks.{startsOf, startIn, stretchOf}
 

@@ -1,12 +1,8 @@
 -- Demand 1: a call is turned down with the number of the first rule of its table that is not kept, exactly then, and
 -- leaves what it was lent as it was; the table's numbers rise. The call's number is the table's by definition. Assumes
 -- nothing.
-use mathlib.Core.Path.{_≡_, refl, sym, ap, _∙_, subst}
-use mathlib.Core.Bool.{Bool, true, false, true≢false}
-use mathlib.Core.Logic.{_≢_}
-use mathlib.Core.List.{List}
-use Prim.Native.Nat.{ℕ}
-use native.Mathlib.Decide.{ℕ-discrete}
+use Rattle.wire.proofs.Usual.{_≡_, refl, sym, ap, _∙_, subst, Bool, true, false, true≢false, _≢_, List, ℕ}
+use Rattle.wire.proofs.Usual.{ℕ-discrete}
 use Rattle.wire.specs.Tables.{FirstIn, AllKept}
 use Rattle.wire.proofs.Tables.{first-zero, first-some, first-in, kept-not}
 use Rattle.casefile.specs.Bodies.{projectOf}

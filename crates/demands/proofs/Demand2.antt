@@ -1,15 +1,13 @@
 -- Demand 2: an accepted cycle leaves exactly what the definitions say. The buffers and the count are the call's
 -- definition; each block's step is the fixed point of the cycle (`fixed`); the state that is left is well formed, since
 -- a step keeps a block so and a group's byte becomes 0, 1, 3 or stays. Assumes nothing.
-use mathlib.Core.Path.{_≡_, refl, sym, ap, _∙_}
-use mathlib.Core.Bool.{Bool, true, false, cond, true≢false}
-use mathlib.Core.List.{List, [], _++_, append-assoc, append-nil}
-use Prim.Native.Nat.{ℕ, zero, suc, _+_, _-_, _*_, _≤_, _<_}
+use Rattle.wire.proofs.Usual.{_≡_, refl, sym, ap, _∙_, Bool, true, false, cond, true≢false, List, [], _++_}
+use Rattle.wire.proofs.Usual.{append-nil, ℕ, zero, suc, _+_, _-_, _*_, _≤_, _<_, ℕ-discrete, decLt, arith}
+use Rattle.wire.proofs.Usual.{length, take, drop, replicate, length-append, length-replicate}
+use mathlib.Core.List.{append-assoc}
 use native.Mathlib.Nat.{not-suc-le-zero, mul-zero, mul-suc, add-zero}
 use native.Mathlib.Numerals.{add-one}
-use native.Mathlib.Decide.{ℕ-discrete, decLt}
-use native.Mathlib.Omega.{arith}
-use lib.ListN.{length, take, drop, replicate, length-append, length-replicate, getD-replicate, List·getD-eq-default}
+use lib.ListN.{getD-replicate, List·getD-eq-default}
 use lib.Seq.{take-at, drop-at, getD-append-add}
 use Rattle.wire.specs.Words.{byteAt}
 use Rattle.wire.specs.Records.{slot}

@@ -1,10 +1,8 @@
 -- Demand 3: two accepted files whose projects are alike give the same runs. All that a cycle reads of a block but its
 -- execution number is the same in both, and the execution numbers matter along links alone (`agree`). Assumes nothing.
-use mathlib.Core.Path.{_≡_, refl, sym, ap, ap₂, _∙_, subst, fun-ext}
-use mathlib.Core.Bool.{Bool, not, _&&_}
-use mathlib.Core.List.{List, [], _∷_, _++_}
-use Prim.Native.Nat.{ℕ, zero, suc, _+_, _*_, _<_}
-use lib.Dec.{eqb}
+use Rattle.wire.proofs.Usual.{_≡_, refl, sym, ap, ap₂, _∙_, subst, Bool, not, _&&_, List, [], _∷_, _++_, ℕ}
+use Rattle.wire.proofs.Usual.{zero, suc, _+_, _*_, _<_, eqb}
+use mathlib.Core.Path.{fun-ext}
 use Rattle.wire.specs.Words.{bytes4}
 use Rattle.wire.specs.Records.{gather}
 use Rattle.wire.specs.Places.{all}

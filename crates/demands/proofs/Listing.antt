@@ -1,10 +1,7 @@
 -- The file that 01, "The trace program", writes out: both of its cycles from the fresh state, with all that each
 -- answers and leaves, by computation of the definitions. The first ends in RUN with 30000 + 2767 = 32767 and no
 -- finding, the second in ERROR with the one finding that the paper prints. Assumes nothing.
-use Prim.Native.Nat.{ℕ}
-use mathlib.Core.Path.{_≡_, refl, sym, ap, _∙_}
-use mathlib.Core.List.{List, _∷_, _++_}
-use lib.ListN.{replicate}
+use Rattle.wire.proofs.Usual.{ℕ, _≡_, refl, sym, ap, _∙_, List, _∷_, _++_, replicate}
 use Rattle.wire.specs.Words.{bytes2, bytes4}
 use Rattle.wire.specs.Records.{slot, gather}
 use Rattle.wire.specs.Places.{firstBad, all}

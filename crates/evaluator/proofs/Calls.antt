@@ -1,13 +1,7 @@
 -- What a cycle call answers, by the first row of its table that is not kept. Assumes nothing.
-use mathlib.Core.Path.{_≡_, refl, sym, ap, _∙_}
-use mathlib.Core.Bool.{true, false, _&&_}
-use mathlib.Core.Logic.{_≢_}
-use mathlib.Core.List.{List}
-use Prim.Native.Nat.{ℕ, zero, suc}
-use native.Mathlib.Decide.{ℕ-discrete}
-use lib.Dec.{eqb, leb}
-use lib.ListN.{length}
-use borrow.Author.Tests.{eqb-true}
+use Rattle.wire.proofs.Usual.{_≡_, refl, sym, ap, _∙_, true, false, _&&_, _≢_, List, ℕ, zero, suc}
+use Rattle.wire.proofs.Usual.{ℕ-discrete, eqb, length, eqb-true}
+use lib.Dec.{leb}
 use Rattle.wire.specs.Places.{all}
 use Rattle.wire.specs.Tables.{first, AllKept}
 use Rattle.wire.proofs.Places.{both-left, both-right}

@@ -1,13 +1,10 @@
 -- A checked call: what follows from an accepted project, its counts and buffers of their sizes for each part of a
 -- cycle. Assumes nothing.
-use mathlib.Core.Path.{_≡_, refl, sym, ap, ap₂, _∙_, subst}
-use mathlib.Core.Bool.{Bool, true, false, cond, not, _&&_}
-use mathlib.Core.Logic.{_≢_, ⊎-elim}
-use mathlib.Core.List.{List, [], _∷_, _++_}
-use Prim.Native.Nat.{ℕ, _+_, _*_, _≤_, _<_}
-use native.Mathlib.Nat.{zero-add}
-use native.Mathlib.Omega.{arith}
-use lib.ListN.{length, take, drop, replicate, length-append, length-drop, List·getD-append}
+use Rattle.wire.proofs.Usual.{_≡_, refl, sym, ap, ap₂, _∙_, subst, Bool, true, false, cond, not, _&&_, _≢_}
+use Rattle.wire.proofs.Usual.{List, [], _∷_, _++_, ℕ, _+_, _*_, _≤_, _<_, zero-add, arith, length, take, drop}
+use Rattle.wire.proofs.Usual.{replicate, length-append, length-drop}
+use mathlib.Core.Logic.{⊎-elim}
+use lib.ListN.{List·getD-append}
 use Rattle.wire.specs.Words.{byteAt, bytes4}
 use Rattle.wire.specs.Records.{gather}
 use Rattle.wire.specs.Places.{all}

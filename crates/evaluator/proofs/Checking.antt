@@ -1,12 +1,7 @@
 -- What the code's tests of a cycle call's arguments say by the definitions, and what the counts of an accepted file's
 -- bodies are. Assumes nothing.
-use mathlib.Core.Path.{_≡_, ap, ap₂, _∙_}
-use mathlib.Core.Bool.{Bool, _&&_}
-use mathlib.Core.List.{List}
-use Prim.Native.Nat.{ℕ, _+_, _*_, _≤_}
-use native.Mathlib.Omega.{arith}
-use lib.ListN.{length, take, drop}
-use lib.Dec.{eqb}
+use Rattle.wire.proofs.Usual.{_≡_, ap, ap₂, _∙_, Bool, _&&_, List, ℕ, _+_, _*_, _≤_, arith, length, take}
+use Rattle.wire.proofs.Usual.{drop, eqb}
 use Rattle.wire.specs.Words.{le32}
 use Rattle.wire.proofs.Records.{word-within}
 use Rattle.project.specs.declared.Counts.{Counts}

@@ -1,13 +1,9 @@
 -- One cycle of an accepted project as the code runs it, and as the definitions say it: the groups decide first, then
 -- the blocks run in a state whose group bytes are new already, in the phases that a list has. Assumes nothing.
-use mathlib.Core.Path.{_≡_, refl, sym, ap, ap₂, _∙_}
-use mathlib.Core.Bool.{Bool, true, false, cond}
-use mathlib.Core.List.{List, _++_}
-use Prim.Native.Nat.{ℕ, zero, suc, _+_, _*_, _<_}
-use native.Mathlib.Nat.{add-comm, mul-zero, mul-suc, zero-add}
-use native.Mathlib.Omega.{arith}
-use lib.Dec.{ltb}
-use lib.ListN.{length, take, drop, replicate, replicate-append-replicate}
+use Rattle.wire.proofs.Usual.{_≡_, refl, sym, ap, ap₂, _∙_, Bool, true, false, cond, List, _++_, ℕ, zero, suc}
+use Rattle.wire.proofs.Usual.{_+_, _*_, _<_, zero-add, arith, ltb, length, take, drop, replicate}
+use native.Mathlib.Nat.{add-comm, mul-zero, mul-suc}
+use lib.ListN.{replicate-append-replicate}
 use lib.Seq.{take-at, drop-at}
 use Rattle.wire.specs.Words.{byteAt}
 use Rattle.wire.specs.Records.{gather}

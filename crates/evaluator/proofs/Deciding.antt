@@ -1,17 +1,12 @@
 -- What the loops over the blocks and over the groups keep: the marks of groups with a block in ERROR, and the groups'
 -- new bytes and phases. Assumes nothing.
-use mathlib.Core.Path.{_≡_, refl, sym, ap, ap₂, _∙_}
-use mathlib.Core.Bool.{Bool, true, false, not, _&&_}
-use mathlib.Core.List.{List, [], _∷_, _++_}
-use Prim.Native.Nat.{ℕ, zero, suc, _+_, _-_, _≤_, _<_}
-use native.Mathlib.Nat.{not-suc-le-zero, le-of-suc-le-suc, zero-add}
-use native.Mathlib.Decide.{ℕ-discrete, decLt}
-use native.Mathlib.Omega.{arith}
-use lib.Dec.{eqb}
-use lib.ListN.{length, getD, set, drop, replicate, length-set, length-append, length-drop, getD-replicate}
+use Rattle.wire.proofs.Usual.{_≡_, refl, sym, ap, ap₂, _∙_, Bool, true, false, not, _&&_, List, [], _∷_, _++_}
+use Rattle.wire.proofs.Usual.{ℕ, zero, suc, _+_, _-_, _≤_, _<_, zero-add, ℕ-discrete, decLt, arith, eqb, length}
+use Rattle.wire.proofs.Usual.{set, drop, replicate, length-append, length-drop, eq-eqb, ne-eqb}
+use native.Mathlib.Nat.{not-suc-le-zero, le-of-suc-le-suc}
+use lib.ListN.{getD, length-set, getD-replicate}
 use lib.ListN.{List·getD-append}
 use lib.Seq.{getD-set-same, getD-set-other, getD-append-add, getD-drop, ext-getD}
-use borrow.Author.Tests.{eq-eqb, ne-eqb}
 use Rattle.wire.specs.Words.{byteAt}
 use Rattle.wire.specs.Records.{gather}
 use Rattle.wire.specs.Places.{all}

@@ -1,14 +1,8 @@
 -- The fresh state: its length, and that it is well formed where the file is accepted, which is the first half of what
 -- 01, "What the reviewer must be able to rely on", asks of states. Assumes nothing.
-use mathlib.Core.Path.{_≡_, refl, sym, ap, ap₂, _∙_}
-use mathlib.Core.Bool.{Bool, true, _&&_}
-use mathlib.Core.Logic.{_≢_}
-use mathlib.Core.List.{List, [], _∷_}
-use Prim.Native.Nat.{ℕ, _+_, _<_}
-use native.Mathlib.Omega.{arith}
-use borrow.Author.Tests.{eq-eqb, ne-eqb}
-use lib.Dec.{eqb}
-use lib.ListN.{length, replicate, length-append, List·getD-append, length-replicate, getD-replicate}
+use Rattle.wire.proofs.Usual.{_≡_, refl, sym, ap, ap₂, _∙_, Bool, true, _&&_, _≢_, List, [], _∷_, ℕ, _+_}
+use Rattle.wire.proofs.Usual.{_<_, arith, eq-eqb, ne-eqb, eqb, length, replicate, length-append, length-replicate}
+use lib.ListN.{List·getD-append, getD-replicate}
 use Rattle.wire.specs.Records.{gather}
 use Rattle.wire.specs.Tables.{row, first}
 use Rattle.wire.proofs.Places.{all-true}

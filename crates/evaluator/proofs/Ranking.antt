@@ -1,12 +1,8 @@
 -- The blocks by execution number: after block b each of the first b + 1 blocks stands at its number. Assumes nothing.
-use mathlib.Core.Path.{_≡_, refl, sym, ap, _∙_}
-use mathlib.Core.List.{List}
-use Prim.Native.Nat.{ℕ, _+_, _%_, _≤_, _<_}
+use Rattle.wire.proofs.Usual.{_≡_, refl, sym, ap, _∙_, List, ℕ, _+_, _%_, _≤_, _<_, decLt, ℕ-discrete, arith}
+use Rattle.wire.proofs.Usual.{ltb, length, set, replicate, lt-ltb}
 use native.Mathlib.Nat.{not-suc-le-zero, mod-eq-of-lt}
-use native.Mathlib.Decide.{decLt, ℕ-discrete}
-use native.Mathlib.Omega.{arith}
-use lib.Dec.{ltb}
-use lib.ListN.{length, set, replicate, length-set, getD-replicate}
+use lib.ListN.{length-set, getD-replicate}
 use lib.Seq.{getD-set-same, getD-set-other}
 use Rattle.wire.specs.Words.{byteAt}
 use Rattle.project.specs.Asks.{Sound}
@@ -15,7 +11,7 @@ use Rattle.project.proofs.Orders.{block-at-lt, block-at-is}
 use Rattle.block.specs.State.{onlyIf}
 use Rattle.evaluator.specs.Asks.{Ordered, Ranked, orderList}
 use Rattle.evaluator.proofs.Deciding.{row-length, row-at, row-is}
-use borrow.Author.Tests.{lt-ltb, le-ltb}
+use borrow.Author.Tests.{le-ltb}
 
 pub record Ranking (B : List ℕ) (n : ℕ) (K : List ℕ) (b : ℕ) : Type 0 where
   pub within : b ≤ n

@@ -1,9 +1,5 @@
 -- What the code reads of the blocks, the record and the state, said by the definitions of a cycle. Assumes nothing.
-use mathlib.Core.Path.{_≡_, refl, ap, _∙_}
-use mathlib.Core.List.{List}
-use Prim.Native.Nat.{ℕ, _+_, _-_, _*_, _≤_, _<_}
-use native.Mathlib.Omega.{arith}
-use lib.ListN.{length, take, drop}
+use Rattle.wire.proofs.Usual.{_≡_, refl, ap, _∙_, List, ℕ, _+_, _-_, _*_, _≤_, _<_, arith, length, take, drop}
 use Rattle.wire.specs.Words.{le32}
 use Rattle.wire.specs.Records.{slot}
 use Rattle.wire.proofs.Records.{word-within}

@@ -1,15 +1,10 @@
 -- What the loop over the execution numbers keeps, and what it comes to: the state and the findings by block number
 -- stand at one stage. Assumes nothing.
-use mathlib.Core.Path.{_≡_, refl, sym, ap, ap₂, _∙_, subst}
-use mathlib.Core.Bool.{Bool, true, false, cond}
-use mathlib.Core.Logic.{_≢_}
-use mathlib.Core.List.{List, _++_}
-use Prim.Native.Nat.{ℕ, _+_, _*_, _≤_, _<_}
-use native.Mathlib.Nat.{zero-add}
-use native.Mathlib.Decide.{ℕ-discrete}
-use native.Mathlib.Omega.{arith}
-use lib.ListN.{length, take, replicate, length-replicate, getD-replicate}
-use lib.Seq.{sets, ext-getD}
+use Rattle.wire.proofs.Usual.{_≡_, refl, sym, ap, ap₂, _∙_, subst, Bool, true, false, cond, _≢_, List, _++_}
+use Rattle.wire.proofs.Usual.{ℕ, _+_, _*_, _≤_, _<_, zero-add, ℕ-discrete, arith, length, take, replicate}
+use Rattle.wire.proofs.Usual.{length-replicate, sets}
+use lib.ListN.{getD-replicate}
+use lib.Seq.{ext-getD}
 use Rattle.wire.specs.Words.{byteAt}
 use Rattle.wire.specs.Records.{slot, gather}
 use Rattle.wire.proofs.Records.{apart, slot-getD, length-slot, head-put}

@@ -1,13 +1,9 @@
 -- A cycle call over an accepted file, from buffers of their sizes and a well-formed state: it answers and leaves what a
 -- step does, and what it leaves may be lent to the next call. Assumes nothing.
-use mathlib.Core.Path.{_≡_, refl, sym, ap, _∙_, subst}
-use mathlib.Core.Bool.{Bool, true, false, cond}
-use mathlib.Core.List.{List, [], _++_}
-use Prim.Native.Nat.{ℕ, zero, suc, _+_, _-_, _*_, _≤_}
+use Rattle.wire.proofs.Usual.{_≡_, refl, sym, ap, _∙_, subst, Bool, true, false, cond, List, [], _++_, ℕ, zero}
+use Rattle.wire.proofs.Usual.{suc, _+_, _-_, _*_, _≤_, arith, eq-eqb, length, replicate, length-append}
+use Rattle.wire.proofs.Usual.{length-replicate}
 use native.Mathlib.Nat.{mul-suc}
-use native.Mathlib.Omega.{arith}
-use borrow.Author.Tests.{eq-eqb}
-use lib.ListN.{length, replicate, length-append, length-replicate}
 use Rattle.wire.specs.Words.{bytes4}
 use Rattle.wire.specs.Tables.{first}
 use Rattle.wire.proofs.Records.{length-gather}

@@ -1,12 +1,9 @@
 -- One turn, from what the code read and left to what the definitions say of it. Assumes nothing.
-use mathlib.Core.Path.{_≡_, refl, sym, ap, ap₂, _∙_}
-use mathlib.Core.Bool.{Bool, true, false}
-use mathlib.Core.List.{List}
-use Prim.Native.Nat.{ℕ, _+_, _-_, _*_, _≤_}
+use Rattle.wire.proofs.Usual.{_≡_, refl, sym, ap, ap₂, _∙_, Bool, true, false, List, ℕ, _+_, _-_, _*_, _≤_}
+use Rattle.wire.proofs.Usual.{length, take, drop, sets}
 use native.Mathlib.Nat.{add-sub-cancel-left}
 use borrow.Rule.Slice.PartMut.{putMid}
-use lib.ListN.{length, take, drop}
-use lib.Seq.{sets, length-sets}
+use lib.Seq.{length-sets}
 use Rattle.wire.specs.Records.{slot}
 use Rattle.wire.proofs.Records.{slot-put-same}
 use Rattle.wire.proofs.Stores.{stored}

@@ -1,12 +1,7 @@
 -- A cycle has at most as many findings as an accepted file has blocks, so that the count fits C's number; and no buffer
 -- of an accepted file is larger than the header says. Assumes nothing.
-use mathlib.Core.Path.{_≡_, refl, sym, ap, subst}
-use mathlib.Core.Bool.{Bool, true, false, cond}
-use mathlib.Core.List.{List}
-use Prim.Native.Nat.{ℕ, zero, suc, _≤_}
-use native.Mathlib.Omega.{arith}
-use lib.Dec.{eqb}
-use borrow.Author.Tests.{ne-eqb}
+use Rattle.wire.proofs.Usual.{_≡_, refl, sym, ap, subst, Bool, true, false, cond, List, ℕ, zero, suc, _≤_, arith}
+use Rattle.wire.proofs.Usual.{eqb, ne-eqb}
 use Rattle.wire.specs.Tables.{first}
 use Rattle.project.specs.Project.{blockCount}
 use Rattle.casefile.specs.Bodies.{projectOf}

@@ -1,7 +1,5 @@
 -- Small numbers and their negations as C's `int32_t`. Assumes nothing.
-use mathlib.Core.Path.{_≡_, refl, sym, ap, _∙_, subst}
-use Prim.Native.Nat.{ℕ, zero, suc, _<_}
-use native.Mathlib.Omega.{arith}
+use Rattle.wire.proofs.Usual.{_≡_, refl, sym, ap, _∙_, subst, ℕ, zero, suc, _<_, arith}
 use borrow.Author.Tests.{le-leb}
 use lib.IntN.{ℤ, pos, negsuc, negℤ, _-ℤ_}
 use mir.Syntax.{w32}

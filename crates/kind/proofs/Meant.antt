@@ -1,11 +1,7 @@
 -- The masks of the devices are what 01, "The case file" and "One cycle", says bit by bit: the bits that each allows,
 -- and those that make a group pending. One test that antt computes over all bytes.
 -- Assumes nothing.
-use mathlib.Core.Path.{_≡_, refl, sym}
-use mathlib.Core.Bool.{Bool, true, false, not, _&&_, _||_, true≢false}
-use mathlib.Core.List.{List}
-use Prim.Native.Nat.{ℕ, _<_}
-use lib.Dec.{ltb}
+use Rattle.wire.proofs.Usual.{_≡_, refl, sym, Bool, true, false, not, _&&_, _||_, true≢false, List, ℕ, _<_, ltb}
 use Rattle.wire.specs.Places.{firstBad, all}
 use Rattle.wire.proofs.Places.{all-each, both-left, both-right}
 use Rattle.kind.specs.Kinds.{familyOf}

@@ -1,12 +1,8 @@
 -- Bytes that are 0, four at a time: a number of four bytes is 0 exactly where each of them is.
 -- Assumes nothing.
-use mathlib.Core.Path.{_≡_, refl, ap, _∙_}
-use mathlib.Core.Bool.{Bool, true, false, _&&_}
-use mathlib.Core.List.{List}
-use Prim.Native.Nat.{ℕ, suc}
-use native.Mathlib.Omega.{arith}
-use borrow.Author.Tests.{eqb-true, eqb-false, eq-eqb, ne-eqb}
-use lib.Dec.{eqb}
+use Rattle.wire.proofs.Usual.{_≡_, refl, ap, _∙_, Bool, true, false, _&&_, List, ℕ, suc, arith, eqb-true, eq-eqb}
+use Rattle.wire.proofs.Usual.{ne-eqb, eqb}
+use borrow.Author.Tests.{eqb-false}
 use Rattle.wire.specs.Words.{byteAt, word4, le32}
 use Rattle.kind.specs.Parameters.{zerosFrom}
 

@@ -1,12 +1,9 @@
 -- What two projects that are alike share: the counts, and of each block everything but its execution number. Assumes
 -- nothing.
-use mathlib.Core.Path.{_≡_, sym, ap, _∙_}
-use mathlib.Core.Logic.{_≢_}
-use mathlib.Core.List.{List}
-use Prim.Native.Nat.{ℕ, _+_, _-_, _*_, _/_, _<_, _≤_, min}
-use native.Mathlib.Decide.{decLt}
-use native.Mathlib.Omega.{arith}
-use lib.ListN.{length, take, drop, length-take, length-drop, List·getD-eq-default}
+use Rattle.wire.proofs.Usual.{_≡_, sym, ap, _∙_, _≢_, List, ℕ, _+_, _-_, _*_, _/_, _<_, _≤_, decLt, arith}
+use Rattle.wire.proofs.Usual.{length, take, drop, length-drop}
+use Prim.Native.Nat.{min}
+use lib.ListN.{length-take, List·getD-eq-default}
 use lib.Seq.{ext-getD, getD-take, getD-drop}
 use Rattle.wire.specs.Words.{byteAt}
 use Rattle.kind.specs.Parameters.{parameterCount}

@@ -1,12 +1,7 @@
 -- The counts of a project, field by field, and the size of its cycle record. Assumes nothing.
-use mathlib.Core.Path.{_≡_, refl, ap}
-use mathlib.Core.Bool.{Bool, true, false, cond, _&&_}
-use mathlib.Core.List.{List}
-use Prim.Native.Nat.{ℕ, _<_, _≤_}
-use native.Mathlib.Omega.{arith}
+use Rattle.wire.proofs.Usual.{_≡_, refl, ap, Bool, true, false, cond, _&&_, List, ℕ, _<_, _≤_, arith, length}
 use borrow.Author.Tests.{le-leb, lt-leb}
 use lib.Dec.{leb}
-use lib.ListN.{length}
 use Rattle.project.specs.declared.Counts.{Counts}
 use Rattle.project.specs.Project.{device, groupCount, inputCount, blockCount, outputCount, recordSize, fileMost}
 use Rattle.project.specs.Project.{sizeCounted, countsOf}

@@ -1,12 +1,8 @@
 -- Numbers below n, at n places, no two alike: each number below n stands at one of the places, the first of which is
 -- found by `firstBad`. Assumes nothing.
-use mathlib.Core.Path.{_≡_}
-use mathlib.Core.Bool.{Bool, true, cond, not}
-use Prim.Native.Nat.{ℕ, zero, suc, _-_, _<_, _≤_}
-use native.Mathlib.Decide.{decLt}
-use native.Mathlib.Omega.{arith}
-use borrow.Author.Tests.{eqb-true, eqb-false, lt-ltb, le-ltb, not-true, not-false}
-use lib.Dec.{eqb, ltb}
+use Rattle.wire.proofs.Usual.{_≡_, Bool, true, cond, not, ℕ, zero, suc, _-_, _<_, _≤_, decLt, arith, eqb-true}
+use Rattle.wire.proofs.Usual.{lt-ltb, not-true, eqb, ltb}
+use borrow.Author.Tests.{eqb-false, le-ltb, not-false}
 use Rattle.wire.specs.Places.{firstBad}
 use Rattle.wire.proofs.Places.{found}
 

@@ -1,8 +1,6 @@
 -- The execution numbers of a sound project are 0 to n - 1, each once: the block at a number has it.
 -- Assumes nothing.
-use mathlib.Core.Path.{_≡_}
-use mathlib.Core.List.{List}
-use Prim.Native.Nat.{ℕ, _<_}
+use Rattle.wire.proofs.Usual.{_≡_, List, ℕ, _<_}
 use Rattle.project.specs.Project.{blockCount, orderOf, otherOrder, blockAt}
 use Rattle.project.specs.Asks.{Sound}
 use Rattle.project.proofs.Onto.{Apart, placeOf, place-lt, place-is}

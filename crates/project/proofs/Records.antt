@@ -1,12 +1,9 @@
 -- Records of a size in a list: where one past the last whole one starts, how long a record is, its bytes, and its
 -- parts. Assumes nothing.
-use mathlib.Core.Path.{_≡_, sym, ap, _∙_}
-use mathlib.Core.List.{List, []}
-use Prim.Native.Nat.{ℕ, _+_, _*_, _/_, _<_, _≤_}
+use Rattle.wire.proofs.Usual.{_≡_, sym, ap, _∙_, List, [], ℕ, _+_, _*_, _/_, _<_, _≤_, arith, length, take}
+use Rattle.wire.proofs.Usual.{drop, length-drop, length-take-le}
 use native.Mathlib.Nat.{mul-comm, mul-le-mul-left, mul-div-le, div-lt-iff-lt-mul, le-trans}
-use native.Mathlib.Omega.{arith}
-use lib.ListN.{length, take, drop, length-drop}
-use lib.Seq.{length-take-le, getD-take, getD-drop}
+use lib.Seq.{getD-take, getD-drop}
 use Rattle.wire.specs.Words.{byteAt}
 use Rattle.wire.proofs.Stores.{part-past}
 use Rattle.project.specs.Project.{rowOf}

@@ -2,16 +2,14 @@
 -- `decimal` of what it spells. Each law is by the last digit: a number below 10 is one digit, any other is that of a
 -- tenth and its last digit.
 -- Assumes nothing.
-use mathlib.Core.Path.{_≡_, refl, sym, ap, _∙_}
-use mathlib.Core.Bool.{true, false, true≢false}
-use mathlib.Core.List.{List, [], _∷_, _++_, append-nil, append-assoc}
-use Prim.Native.Nat.{ℕ, zero, suc, _+_, _-_, _*_, _/_, _%_, _^_, _≤_, _<_}
+use Rattle.wire.proofs.Usual.{_≡_, refl, sym, ap, _∙_, true, false, true≢false, List, [], _∷_, _++_}
+use Rattle.wire.proofs.Usual.{append-nil, ℕ, zero, suc, _+_, _-_, _*_, _/_, _%_, _≤_, _<_, decLt, arith, lt-ltb}
+use Rattle.wire.proofs.Usual.{length, length-append}
+use mathlib.Core.List.{append-assoc}
+use Prim.Native.Nat.{_^_}
 use native.Mathlib.Nat.{pow-succ', one-le-pow}
-use native.Mathlib.Decide.{decLt}
-use native.Mathlib.Omega.{arith}
-use borrow.Author.Tests.{lt-ltb, le-ltb}
+use borrow.Author.Tests.{le-ltb}
 use lib.IntN.{ℤ, pos, negsuc, natAbs}
-use lib.ListN.{length, length-append}
 use Rattle.numbers.specs.Types.{isNeg}
 use Rattle.report.specs.Decimal.{digit, digitsWithin, decimal, signedDecimal, readOn, valueOf, Digits, Numeral}
 

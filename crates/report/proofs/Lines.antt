@@ -1,12 +1,8 @@
 -- How long a line is, and that a buffer which is long enough holds it. Every number of 32 bits has at most 10 digits,
 -- so that no line has more than 96 bytes.
 -- Assumes nothing.
-use mathlib.Core.Path.{_≡_, refl}
-use mathlib.Core.List.{List}
-use Prim.Native.Nat.{ℕ, _≤_, _<_, _^_}
-use native.Mathlib.Omega.{arith}
-use lib.ListN.{length, take, length-append}
-use lib.Seq.{sets}
+use Rattle.wire.proofs.Usual.{_≡_, refl, List, ℕ, _≤_, _<_, arith, length, take, length-append, sets}
+use Prim.Native.Nat.{_^_}
 use Rattle.wire.proofs.Stores.{take-sets}
 use Rattle.numbers.specs.Types.{value}
 use Rattle.numbers.specs.declared.NumType.{NumType}

@@ -1,13 +1,9 @@
 -- Text that is stored piece by piece: one piece behind another is one text, and a number's digits may be stored from
 -- the last to the first.
 -- Assumes nothing.
-use mathlib.Core.Path.{_≡_, refl, sym, ap, _∙_}
-use mathlib.Core.List.{List, [], _∷_, _++_, append-nil}
-use Prim.Native.Nat.{ℕ, suc, _+_, _-_, _/_, _%_, _≤_, _<_}
-use native.Mathlib.Nat.{zero-add}
-use native.Mathlib.Omega.{arith}
-use lib.ListN.{length, set, length-append}
-use lib.Seq.{sets, length-sets, append-snoc}
+use Rattle.wire.proofs.Usual.{_≡_, refl, sym, ap, _∙_, List, [], _∷_, _++_, append-nil, ℕ, suc, _+_, _-_, _/_}
+use Rattle.wire.proofs.Usual.{_%_, _≤_, _<_, zero-add, arith, length, set, length-append, sets}
+use lib.Seq.{length-sets, append-snoc}
 use Rattle.wire.proofs.Stores.{sets-append, set-sets-comm}
 use Rattle.report.specs.Decimal.{digit, decimal}
 use Rattle.report.specs.Lines.{Printed, Put}

@@ -1,13 +1,7 @@
 -- What a fresh state that was written, or was not, says of its file, and what an accepted file's bodies and counts give
 -- to each call of a trace. Assumes nothing.
-use mathlib.Core.Path.{_≡_, refl, sym, ap, ap₂, _∙_}
-use mathlib.Core.Logic.{_≢_}
-use mathlib.Core.Bool.{true}
-use mathlib.Core.List.{List}
-use Prim.Native.Nat.{ℕ, zero, suc, _/_, _<_}
-use native.Mathlib.Decide.{ℕ-discrete}
-use native.Mathlib.Omega.{arith}
-use lib.ListN.{length}
+use Rattle.wire.proofs.Usual.{_≡_, refl, sym, ap, ap₂, _∙_, _≢_, true, List, ℕ, zero, suc, _/_, _<_}
+use Rattle.wire.proofs.Usual.{ℕ-discrete, arith, length}
 use Rattle.wire.specs.Tables.{first}
 use Rattle.project.specs.declared.Counts.{Counts}
 use Rattle.project.specs.Project.{rowOf, groupCount, inputCount, recordSize}

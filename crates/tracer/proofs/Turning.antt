@@ -1,12 +1,8 @@
 -- The turns of a trace: before each, the calls that are left are a run from what the last one left; a record that is
 -- taken goes on with the next, and another ends the trace. Assumes nothing.
-use mathlib.Core.Path.{_≡_, refl, sym, ap, ap₂, _∙_}
-use mathlib.Core.Bool.{Bool, true, false, cond}
-use mathlib.Core.List.{List, [], _∷_}
-use Prim.Native.Nat.{ℕ, suc, _+_, _-_, _%_, _≤_, _<_}
+use Rattle.wire.proofs.Usual.{_≡_, refl, sym, ap, ap₂, _∙_, Bool, true, false, cond, List, [], _∷_, ℕ, suc}
+use Rattle.wire.proofs.Usual.{_+_, _-_, _%_, _≤_, _<_, arith, drop, length-replicate}
 use native.Mathlib.Nat.{sub-zero}
-use native.Mathlib.Omega.{arith}
-use lib.ListN.{drop, length-replicate}
 use lib.Seq.{drop-drop}
 use Rattle.wire.specs.Tables.{first}
 use Rattle.casefile.specs.Bodies.{projectOf, recordCount, recordOf}

@@ -1,17 +1,11 @@
 -- The laws of tables of refusals: `first` tells whether every row is kept and which is the first that is not, a search
 -- over the places finds it, and of two tables after each other the first decides where it is not kept. None names a
 -- place or a number of a table. Assumes nothing.
-use mathlib.Core.Path.{_≡_, refl, sym, ap, _∙_, subst}
-use mathlib.Core.Bool.{Bool, true, false, cond, _&&_, true≢false}
-use mathlib.Core.Logic.{_↔_, _≢_, _⊎_, inl, inr}
-use mathlib.Core.List.{List, [], _∷_, _++_}
-use Prim.Native.Nat.{ℕ, zero, suc, _<_, _≤_}
+use Rattle.wire.proofs.Usual.{_≡_, refl, sym, ap, _∙_, subst, Bool, true, false, cond, _&&_, true≢false}
+use Rattle.wire.proofs.Usual.{_≢_, List, [], _∷_, _++_, ℕ, zero, suc, _<_, _≤_, decLt, arith, ltb-true}
+use Rattle.wire.proofs.Usual.{ltb, length}
+use mathlib.Core.Logic.{_↔_, _⊎_, inl, inr}
 use native.Mathlib.Nat.{not-suc-le-zero, le-of-suc-le-suc}
-use native.Mathlib.Decide.{decLt}
-use native.Mathlib.Omega.{arith}
-use borrow.Author.Tests.{ltb-true}
-use lib.Dec.{ltb}
-use lib.ListN.{length}
 use Rattle.wire.specs.Places.{firstBad}
 use Rattle.wire.specs.Tables.{Row, first, rowAt, FirstIn, AllKept}
 use Rattle.wire.proofs.Places.{found, both-left, both-right}

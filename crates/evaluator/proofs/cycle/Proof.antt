@@ -1,8 +1,6 @@
 -- `evaluator::cycle` meets its contract: a call that has a number is turned down with it, and where it has none the
 -- cycle was run (`Calls`).
-use mathlib.Core.Path.{_≡_, sym, _∙_, subst}
-use borrow.Author.Needs.{needs}
-use denote.Ref.{now}
+use Rattle.wire.proofs.Usual.{_≡_, sym, _∙_, subst, needs, now}
 use Rattle.project.specs.Project.{Project}
 use Rattle.casefile.specs.Bodies.{projectOf}
 use Rattle.evaluator.specs.Answer.{Lent, Left, lends, refusal}
@@ -104,22 +102,8 @@ returns-2 c =
     (r .1 .1 .1) (r .0) (r .1 .0) (r .1 .1 .0))
 
 pub cycle-spec : {M : Type 1} → statement M
-cycle-spec =
-    tie.close
-    (tie.spec
-    (λ c κs. search needs)
-    (λ c κs. search needs)
-    (λ c. search needs)
-    (λ c. search needs)
-    (λ c. search needs)
-    returns
-    (λ c κs. search needs)
-    (λ c κs. search needs)
-    (λ c κs. search needs)
-    (λ c κs. search needs)
-    (λ c κs. search needs)
-    whole-cycle-requires
-    (λ c. search needs)
-    (λ c. search needs)
-    (λ c. search needs)
+cycle-spec = tie.close (tie.spec
+    (λ c κs. search needs) (λ c κs. search needs) (λ c. search needs) (λ c. search needs) (λ c. search needs)
+    returns (λ c κs. search needs) (λ c κs. search needs) (λ c κs. search needs) (λ c κs. search needs)
+    (λ c κs. search needs) whole-cycle-requires (λ c. search needs) (λ c. search needs) (λ c. search needs)
     returns-2)

@@ -1,11 +1,5 @@
 -- `evaluator::fresh` meets its contract: the file's number, the buffer's length, or the fresh state.
-use mathlib.Core.Path.{_≡_, sym, ap, ap₂, _∙_}
-use mathlib.Core.List.{_++_}
-use Prim.Native.Nat.{ℕ}
-use native.Mathlib.Omega.{arith}
-use borrow.Author.Needs.{needs}
-use denote.Ref.{now}
-use lib.ListN.{replicate}
+use Rattle.wire.proofs.Usual.{_≡_, sym, ap, ap₂, _∙_, _++_, ℕ, arith, needs, now, replicate}
 use Rattle.wire.specs.Records.{gather}
 use Rattle.wire.specs.Tables.{first}
 use Rattle.casefile.specs.Bodies.{projectOf}
@@ -68,18 +62,8 @@ returns-3 c =
     (blocks-counted e t))
 
 pub fresh-spec : {M : Type 1} → statement M
-fresh-spec =
-    tie.close
-    (tie.spec
-    (λ c κs. search needs)
-    (λ c κs. search needs)
-    returns
-    (λ c κs. search needs)
-    (λ c. search needs)
+fresh-spec = tie.close (tie.spec
+    (λ c κs. search needs) (λ c κs. search needs) returns (λ c κs. search needs) (λ c. search needs)
     (λ c. omega (arith, small c))
     (λ c. omega (arith, small c))
-    returns-2
-    (λ c. search needs)
-    (λ c κs. search needs)
-    (λ c. search needs)
-    returns-3)
+    returns-2 (λ c. search needs) (λ c κs. search needs) (λ c. search needs) returns-3)

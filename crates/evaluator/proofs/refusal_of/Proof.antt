@@ -1,8 +1,5 @@
 -- `evaluator::refusal_of` meets its contract: at each `return` the tests that led there give the number (`Calls`).
-use mathlib.Core.Path.{_≡_, sym, ap, _∙_, subst}
-use mathlib.Core.Bool.{true}
-use borrow.Author.Needs.{needs}
-use denote.Ref.{now}
+use Rattle.wire.proofs.Usual.{_≡_, sym, ap, _∙_, subst, true, needs, now}
 use Rattle.wire.specs.Tables.{first}
 use Rattle.wire.proofs.Places.{ok, bad}
 use Rattle.project.specs.Project.{Project}
@@ -138,21 +135,12 @@ returns-5 c =
     sym (rows-none (project-of k) _ _ (sized d) (formed f) (ok (c .before .record-ok .ensures) (c .if4 .left))) ∙ rows k
 
 pub refusal-of-spec : {M : Type 1} → statement M
-refusal-of-spec =
-    tie.close
-    (tie.spec
-    (λ c κs. search needs)
-    (λ c κs. search needs)
-    returns
-    (λ c κs. search needs)
-    (λ c κs. search needs)
-    (λ c κs. search needs)
-    (λ c κs. search needs)
-    (λ c κs. search needs)
+refusal-of-spec = tie.close (tie.spec
+    (λ c κs. search needs) (λ c κs. search needs) returns (λ c κs. search needs) (λ c κs. search needs)
+    (λ c κs. search needs) (λ c κs. search needs) (λ c κs. search needs)
     (λ c κs. few (c .counts-of .ensures) (tested c))
     returns-2
     (λ c κs. let k = c .before .before in whole (k .counts-of .ensures) (tested k))
     returns-3
     (λ c κs. let k = c .before .before .before .before in listed (k .counts-of .ensures) (tested k))
-    returns-4
-    returns-5)
+    returns-4 returns-5)

@@ -1,10 +1,6 @@
 -- `evaluator::sizes_of` meets its contract: the file's number says which case holds; an accepted file's counts are
 -- small, so the sizes fit.
-use mathlib.Core.Path.{_≡_, sym, ap, _∙_}
-use native.Mathlib.Omega.{arith}
-use borrow.Author.Needs.{needs}
-use borrow.Author.Tests.{ne-eqb}
-use denote.Ref.{now}
+use Rattle.wire.proofs.Usual.{_≡_, sym, ap, _∙_, arith, needs, ne-eqb, now}
 use Rattle.wire.specs.Tables.{first}
 use Rattle.casefile.specs.Bodies.{projectOf}
 use Rattle.casefile.specs.Refusal.{fileTable, numberOf}
@@ -47,14 +43,8 @@ returns-2 c =
     (λ i. Bytes (state-counted e t i) (rows-counted e t i) (notes-counted e t i))
 
 pub sizes-of-spec : {M : Type 1} → statement M
-sizes-of-spec =
-    tie.close
-    (tie.spec
-    (λ c κs. search needs)
-    (λ c κs. search needs)
-    returns
-    (λ c κs. search needs)
-    (λ c. search needs)
+sizes-of-spec = tie.close (tie.spec
+    (λ c κs. search needs) (λ c κs. search needs) returns (λ c κs. search needs) (λ c. search needs)
     (λ c. omega (arith, small c))
     (λ c. omega (arith, small c))
     (λ c. omega (arith, small c))

@@ -1,7 +1,5 @@
 -- `evaluator::step` meets its contract: the test of the record says which case holds.
-use mathlib.Core.Path.{ap}
-use borrow.Author.Needs.{needs}
-use denote.Ref.{now}
+use Rattle.wire.proofs.Usual.{ap, needs, now}
 use Rattle.wire.proofs.Places.{ok, bad}
 use Rattle.project.specs.Project.{recordSize}
 use Rattle.evaluator.specs.declared.Answer.the-variants.{Findings}
@@ -37,12 +35,5 @@ advance-requires c κs =
     record { inputs = _; begun = s .pre .1; given = given }
 
 pub step-spec : {M : Type 1} → statement M
-step-spec =
-    tie.close
-    (tie.spec
-    (λ c κs. search needs)
-    returns
-    advance-requires
-    (λ c. search needs)
-    (λ c. search needs)
-    returns-2)
+step-spec = tie.close (tie.spec
+    (λ c κs. search needs) returns advance-requires (λ c. search needs) (λ c. search needs) returns-2)

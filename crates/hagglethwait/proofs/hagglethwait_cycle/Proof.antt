@@ -1,10 +1,6 @@
 -- `hagglethwait::hagglethwait_cycle` meets its contract: the cycle's answer as C's number (`Signs`), whose count is
 -- small (`Counts`), and the buffers as the cycle leaves them.
-use mathlib.Core.Path.{_≡_, sym, ap, _∙_}
-use Prim.Native.Nat.{_<_}
-use native.Mathlib.Omega.{arith}
-use borrow.Author.Needs.{needs}
-use denote.Ref.{now}
+use Rattle.wire.proofs.Usual.{_≡_, sym, ap, _∙_, _<_, arith, needs, now}
 use Rattle.evaluator.specs.declared.Answer.the-variants.{Findings, Refused}
 use Rattle.evaluator.specs.Answer.{Left}
 use Rattle.hagglethwait.specs.Calls.{callOf, answerNumber}
@@ -47,20 +43,10 @@ returns-2 : tie.Need-returns-2
 returns-2 c = (minus-is _ (byte c) ∙ ap answerNumber (refused c), called2 c .cycle .ensures .1)
 
 pub hagglethwait-cycle-spec : {M : Type 1} → statement M
-hagglethwait-cycle-spec =
-    tie.close
-    (tie.spec
-    (λ c κs. search needs)
-    (λ c. search needs)
+hagglethwait-cycle-spec = tie.close (tie.spec
+    (λ c κs. search needs) (λ c. search needs)
     (λ c. count-fits _ (small c))
-    (λ c. search needs)
-    (λ c. search needs)
+    (λ c. search needs) (λ c. search needs)
     (λ c. minus-fits _ (byte c))
-    (λ c. search needs)
-    (λ c. search needs)
-    (λ c. search needs)
-    returns
-    (λ c. search needs)
-    (λ c. search needs)
-    (λ c. search needs)
-    returns-2)
+    (λ c. search needs) (λ c. search needs) (λ c. search needs) returns (λ c. search needs) (λ c. search needs)
+    (λ c. search needs) returns-2)

@@ -1,9 +1,6 @@
 -- `hagglethwait::hagglethwait_sizes` meets its contract: each number that is lent is set where the sizes are there, and
 -- stays where the file is turned down.
-use mathlib.Core.Path.{_≡_, sym, ap, _∙_}
-use Prim.Native.Nat.{ℕ}
-use borrow.Author.Needs.{needs}
-use denote.Ref.{now}
+use Rattle.wire.proofs.Usual.{_≡_, sym, ap, _∙_, ℕ, needs, now}
 use Rattle.evaluator.specs.declared.Sizes.{Sizes}
 use Rattle.evaluator.specs.Fresh.{sizesNumber}
 use Rattle.hagglethwait.specs.Calls.{stateSaid, outputsSaid, findingsSaid}

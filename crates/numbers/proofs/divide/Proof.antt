@@ -33,15 +33,6 @@ returns-3 c =
     ∙ rw (o .ensures) (sgn-div (x .r) (x .a .neg) (x .b .neg) (x .a .mag) (x .b .mag) (omega arith))
 
 pub divide-spec : {M : Type 1} → statement M
-divide-spec =
-    tie.close
-    (tie.spec
-    returns
-    (λ c κs. search needs)
-    (λ c. search needs)
-    goes-away-requires
-    (λ c. search needs)
-    add-t12
-    (λ c. search needs)
-    returns-2
-    returns-3)
+divide-spec = tie.close (tie.spec
+    returns (λ c κs. search needs) (λ c. search needs) goes-away-requires (λ c. search needs) add-t12
+    (λ c. search needs) returns-2 returns-3)

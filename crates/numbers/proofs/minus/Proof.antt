@@ -6,8 +6,6 @@ use Rattle.numbers.proofs.minus.Statement.{statement}
 use Rattle.numbers.proofs.minus.Tie as tie
 
 pub minus-spec : {M : Type 1} → statement M
-minus-spec =
-    tie.close
-    (tie.spec
+minus-spec = tie.close (tie.spec
     (λ c κs. search needs)
     (λ c. let b = c .before .before .args .b in cc (sgn-not (b .neg) (b .mag))))

@@ -27,14 +27,6 @@ returns-4 : tie.Need-returns-4
 returns-4 c = rw (c .before .before .before .if1 .left, c .before .before .if3 .left)
 
 pub plus-spec : {M : Type 1} → statement M
-plus-spec =
-    tie.close
-    (tie.spec
-    (λ c. search needs)
-    (λ c κs. search needs)
-    (λ c κs. search needs)
-    (λ c. search needs)
-    returns
-    returns-2
-    returns-3
-    returns-4)
+plus-spec = tie.close (tie.spec
+    (λ c. search needs) (λ c κs. search needs) (λ c κs. search needs) (λ c. search needs) returns returns-2
+    returns-3 returns-4)

@@ -7,9 +7,7 @@ use Rattle.numbers.proofs.rounding_of.Tie as tie
 
 pub rounding-of-spec : {M : Type 1} → statement M
 unfolding roundingOf
-rounding-of-spec =
-    tie.close
-    (tie.spec
+rounding-of-spec = tie.close (tie.spec
     (λ c. rw (c .match .keys1))
     (λ c. rw (c .match .keys2))
     (λ c.

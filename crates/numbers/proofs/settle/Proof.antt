@@ -27,15 +27,9 @@ returns-4 c =
     rw (c .before .before .if1 .left) (settles-pos (x .t) (x .v .mag) (omega arith))
 
 pub settle-spec : {M : Type 1} → statement M
-settle-spec =
-    tie.close
-    (tie.spec
+settle-spec = tie.close (tie.spec
     (λ c κs. search needs)
     (λ c. omega (arith, under-small (c .before .before .before .args .t)))
-    (λ c. search needs)
-    (λ c κs. search needs)
+    (λ c. search needs) (λ c κs. search needs)
     (λ c. omega (arith, over-small (c .before .before .before .args .t)))
-    returns
-    returns-2
-    returns-3
-    returns-4)
+    returns returns-2 returns-3 returns-4)

@@ -7,9 +7,7 @@ use Rattle.numbers.proofs.text_of.Tie as tie
 
 pub text-of-spec : {M : Type 1} → statement M
 unfolding textOf
-text-of-spec =
-    tie.close
-    (tie.spec
+text-of-spec = tie.close (tie.spec
     (λ c. rw (c .match .keys1))
     (λ c. rw (c .match .keys2))
     (λ c.

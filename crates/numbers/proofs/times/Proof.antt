@@ -12,9 +12,7 @@ returns c =
     rw (c .before .before .opposed .ensures) (sym (sgn-mul (x .a .neg) (x .b .neg) (x .a .mag) (x .b .mag)))
 
 pub times-spec : {M : Type 1} → statement M
-times-spec =
-    tie.close
-    (tie.spec
+times-spec = tie.close (tie.spec
     (λ c κs. search needs)
     (λ c. record { fits = below 32 (search needs) (search needs) })
     returns)

@@ -7,9 +7,7 @@ use Rattle.numbers.proofs.type_of.Tie as tie
 
 pub type-of-spec : {M : Type 1} → statement M
 unfolding typeOf
-type-of-spec =
-    tie.close
-    (tie.spec
+type-of-spec = tie.close (tie.spec
     (λ c. rw (c .match .keys1))
     (λ c. rw (c .match .keys2))
     (λ c. rw (c .match .keys3))

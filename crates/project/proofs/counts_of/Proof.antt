@@ -1,18 +1,13 @@
 -- `project::counts_of` meets its contract: field by field.
-use borrow.Author.Needs.{needs}
-use denote.Ref.{now}
+use Rattle.wire.proofs.Usual.{needs, now}
 use Rattle.project.specs.Project.{countsOf, inputCount, blockCount, outputCount}
 use Rattle.project.proofs.counts_of.Statement.{statement}
 use Rattle.project.proofs.counts_of.Tie as tie
 
 pub counts-of-spec : {M : Type 1} → statement M
 unfolding countsOf inputCount blockCount outputCount
-counts-of-spec =
-    tie.close
-    (tie.spec
-    (λ c κs. search needs)
-    (λ c κs. search needs)
-    (λ c κs. search needs)
+counts-of-spec = tie.close (tie.spec
+    (λ c κs. search needs) (λ c κs. search needs) (λ c κs. search needs)
     (λ c.
     let a = c .before .before .before .before .before .before .before .args in
     λ i. record {

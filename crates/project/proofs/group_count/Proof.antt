@@ -1,6 +1,5 @@
 -- `project::group_count` meets its contract.
-use borrow.Author.Needs.{needs}
-use native.Mathlib.Omega.{arith}
+use Rattle.wire.proofs.Usual.{needs, arith}
 use Rattle.project.specs.Project.{groupCount}
 use Rattle.project.proofs.group_count.Statement.{statement}
 use Rattle.project.proofs.group_count.Tie as tie

@@ -1,6 +1,5 @@
 -- `project::record_at` meets its contract: the place of a record of small size and number is summed up at once.
-use native.Mathlib.Omega.{arith}
-use borrow.Author.Needs.{needs}
+use Rattle.wire.proofs.Usual.{arith, needs}
 use Rattle.project.specs.Project.{rowOf}
 use Rattle.project.proofs.Records.{small}
 use Rattle.project.proofs.record_at.Statement.{statement}
@@ -8,9 +7,7 @@ use Rattle.project.proofs.record_at.Tie as tie
 
 pub record-at-spec : {M : Type 1} → statement M
 unfolding rowOf
-record-at-spec =
-    tie.close
-    (tie.spec
+record-at-spec = tie.close (tie.spec
     (λ c κs. search needs)
     (λ c. c .far-record .ensures)
     (λ c κs. search needs)

@@ -1,9 +1,5 @@
 -- `project::size_counted` meets its contract: the sum of bodies that a file may have is small.
-use mathlib.Core.Path.{sym, ap, _∙_}
-use Prim.Native.Nat.{ℕ, _+_, _*_}
-use native.Mathlib.Omega.{arith}
-use borrow.Author.Needs.{needs}
-use denote.Ref.{now}
+use Rattle.wire.proofs.Usual.{sym, ap, _∙_, ℕ, _+_, _*_, arith, needs, now}
 use Rattle.project.specs.Project.{headSize, wordSize, groupCount, inputCount, recordSize}
 use Rattle.project.proofs.Counted.{groups-too-long, inputs-too-long, size-counted}
 use Rattle.project.proofs.size_counted.Statement.{statement}
@@ -11,9 +7,7 @@ use Rattle.project.proofs.size_counted.Tie as tie
 
 pub size-counted-spec : {M : Type 1} → statement M
 unfolding groupCount inputCount recordSize
-size-counted-spec =
-    tie.close
-    (tie.spec
+size-counted-spec = tie.close (tie.spec
     (λ c. groups-too-long _ _ (c .if1 .taken))
     (λ c. inputs-too-long _ _ (c .if2 .taken))
     (λ c κs. search needs)

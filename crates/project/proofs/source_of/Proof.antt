@@ -1,23 +1,18 @@
 -- `project::source_of` meets its contract: the kind of the link says which case of `linkIn` holds.
-use mathlib.Core.Path.{ap, ap₂}
+use Rattle.wire.proofs.Usual.{ap, ap₂, needs}
 use Rattle.wire.proofs.Places.{is, is-not}
 use Rattle.project.specs.declared.Source.the-variants.{External, Output}
-use borrow.Author.Needs.{needs}
 use Rattle.project.specs.Project.{linkIn}
 use Rattle.project.proofs.source_of.Statement.{statement}
 use Rattle.project.proofs.source_of.Tie as tie
 
 pub source-of-spec : {M : Type 1} → statement M
 unfolding linkIn
-source-of-spec =
-    tie.close
-    (tie.spec
-    (λ c κs. search needs)
-    (λ c κs. search needs)
+source-of-spec = tie.close (tie.spec
+    (λ c κs. search needs) (λ c κs. search needs)
     (λ c.
     rw (is (c .before .before .link-kind .ensures) (c .before .if1 .taken)) (ap External (c .link-index .ensures)))
-    (λ c κs. search needs)
-    (λ c κs. search needs)
+    (λ c κs. search needs) (λ c κs. search needs)
     (λ c.
     let d = c .before .before in
     let kind = d .before .before .link-kind .ensures in

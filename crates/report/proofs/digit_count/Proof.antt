@@ -1,14 +1,11 @@
 -- `report::digit_count` meets its contract: between two powers of ten every number has the same count of digits.
-use mathlib.Core.Path.{sym}
-use borrow.Author.Needs.{needs}
+use Rattle.wire.proofs.Usual.{sym, needs}
 use Rattle.report.proofs.Decimal.{decimal-one, decimal-long}
 use Rattle.report.proofs.digit_count.Statement.{statement}
 use Rattle.report.proofs.digit_count.Tie as tie
 
 pub digit-count-spec : {M : Type 1} → statement M
-digit-count-spec =
-    tie.close
-    (tie.spec
+digit-count-spec = tie.close (tie.spec
     (λ c. sym (decimal-one (c .before .args .n) (c .if1 .taken)))
     (λ c. sym (decimal-long 1 (c .before .before .args .n) (c .before .if1 .left) (c .if2 .taken)))
     (λ c. sym (decimal-long 2 (c .before .before .before .args .n) (c .before .if2 .left) (c .if3 .taken)))

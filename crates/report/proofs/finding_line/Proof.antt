@@ -1,8 +1,6 @@
 -- `report::finding_line` meets its contract: the word, the four numbers, the two inputs and the line feed, each stored
 -- behind the one before.
-use Prim.Native.Nat.{_≤_}
-use borrow.Author.Needs.{needs}
-use lib.ListN.{length}
+use Rattle.wire.proofs.Usual.{_≤_, needs, length}
 use Rattle.report.specs.Lines.{findingWord, findingLine}
 use Rattle.report.proofs.Lines.{finding-short}
 use Rattle.report.proofs.Puts.{put-word, _then_, put-last, put-printed}
@@ -39,18 +37,7 @@ returns c =
     then put-last 10 (feed .put-byte .ensures))
 
 pub finding-line-spec : {M : Type 1} → statement M
-finding-line-spec =
-    tie.close
-    (tie.spec
-    (λ c. search needs)
-    (λ c κs. search needs)
-    (λ c κs. search needs)
-    (λ c κs. search needs)
-    (λ c κs. search needs)
-    (λ c κs. search needs)
-    (λ c κs. search needs)
-    (λ c κs. search needs)
-    (λ c κs. search needs)
-    (λ c. search needs)
-    (λ c. search needs)
-    returns)
+finding-line-spec = tie.close (tie.spec
+    (λ c. search needs) (λ c κs. search needs) (λ c κs. search needs) (λ c κs. search needs)
+    (λ c κs. search needs) (λ c κs. search needs) (λ c κs. search needs) (λ c κs. search needs)
+    (λ c κs. search needs) (λ c. search needs) (λ c. search needs) returns)

@@ -1,10 +1,6 @@
 -- `report::put_decimal` meets its contract: after each turn the digits behind those of `rest` stand in the buffer, and
 -- the last store is the first digit.
-use mathlib.Core.Path.{ap, _∙_}
-use native.Mathlib.Omega.{arith}
-use borrow.Author.Needs.{needs}
-use Prim.Native.Nat.{ℕ, _+_}
-use denote.Ref.{now}
+use Rattle.wire.proofs.Usual.{ap, _∙_, arith, needs, ℕ, _+_, now}
 use Rattle.report.proofs.Decimal.{decimal-ten}
 use Rattle.report.proofs.Puts.{Behind, behind-none, behind-kept, behind-some, behind-more, behind-all}
 use Rattle.report.proofs.put_decimal.Statement.{statement}
@@ -29,24 +25,15 @@ returns c =
     )
 
 pub put-decimal-spec : {M : Type 1} → statement M
-put-decimal-spec =
-    tie.close
-    (tie.spec
-    Inv-loop
-    μ-loop
-    (λ c κs. search needs)
+put-decimal-spec = tie.close (tie.spec
+    Inv-loop μ-loop (λ c κs. search needs)
     (λ c. omega (arith, c .digit-count .ensures, decimal-ten (c .before .before .args .n) (search needs)))
     (λ c. let a = c .before .before .args in behind-none (now (a .out)) (a .at) (a .n) (c .digit-count .ensures))
     (λ c. omega (arith, behind-some (c .before .loop .inv)))
-    (λ c. search needs)
-    (λ c. search needs)
-    (λ c κs. search needs)
-    (λ c. search needs)
+    (λ c. search needs) (λ c. search needs) (λ c κs. search needs) (λ c. search needs)
     (λ c.
     let put = c .before .before in
     behind-more (put .before .before .before .loop .inv) (omega arith) (put .put-byte .ensures))
-    (λ c. search needs)
-    (λ c. search needs)
-    (λ c κs. search needs)
+    (λ c. search needs) (λ c. search needs) (λ c κs. search needs)
     (λ c. c .before .before .put-byte2 .kept .0 ∙ behind-kept (c .before .before .before .before .before .loop .inv))
     returns)

@@ -1,6 +1,5 @@
 -- `report::put_field` meets its contract: a space, and the digits behind it.
-use native.Mathlib.Omega.{arith}
-use borrow.Author.Needs.{needs}
+use Rattle.wire.proofs.Usual.{arith, needs}
 use Rattle.report.proofs.Puts.{put-first}
 use Rattle.report.proofs.put_field.Statement.{statement}
 use Rattle.report.proofs.put_field.Tie as tie

@@ -1,8 +1,6 @@
 -- `report::put_input` meets its contract: a space, a minus sign where the word's number is below 0, and the digits of
 -- its magnitude, which has 32 bits.
-use mathlib.Core.Path.{sym, ap, _∙_}
-use native.Mathlib.Omega.{arith}
-use borrow.Author.Needs.{needs}
+use Rattle.wire.proofs.Usual.{sym, ap, _∙_, arith, needs}
 use Rattle.numbers.specs.Types.{value}
 use Rattle.numbers.specs.declared.Signed.{Signed}
 use Rattle.numbers.proofs.Range.{value-small}
@@ -49,19 +47,7 @@ returns-2 c =
     )
 
 pub put-input-spec : {M : Type 1} → statement M
-put-input-spec =
-    tie.close
-    (tie.spec
-    (λ c κs. search needs)
-    cast-magnitude
-    (λ c κs. search needs)
-    (λ c. search needs)
-    (λ c κs. search needs)
-    (λ c. search needs)
-    (λ c κs. search needs)
-    (λ c. search needs)
-    returns
-    (λ c. search needs)
-    (λ c κs. search needs)
-    (λ c. search needs)
-    returns-2)
+put-input-spec = tie.close (tie.spec
+    (λ c κs. search needs) cast-magnitude (λ c κs. search needs) (λ c. search needs) (λ c κs. search needs)
+    (λ c. search needs) (λ c κs. search needs) (λ c. search needs) returns (λ c. search needs)
+    (λ c κs. search needs) (λ c. search needs) returns-2)

@@ -20,13 +20,6 @@ returns c =
     then put-last 10 (feed .put-byte .ensures))
 
 pub refused-line-spec : {M : Type 1} → statement M
-refused-line-spec =
-    tie.close
-    (tie.spec
-    (λ c. search needs)
-    (λ c κs. search needs)
-    (λ c κs. search needs)
-    (λ c κs. search needs)
-    (λ c. search needs)
-    (λ c. search needs)
-    returns)
+refused-line-spec = tie.close (tie.spec
+    (λ c. search needs) (λ c κs. search needs) (λ c κs. search needs) (λ c κs. search needs) (λ c. search needs)
+    (λ c. search needs) returns)

@@ -1,9 +1,7 @@
 -- `report_lines::lines` is safe and ends: it never passes the end of the records, and the measure is what is left of
 -- them.
 -- Assumes nothing.
-use Prim.Native.Nat.{_-_, _≤_}
-use lib.ListN.{length}
-use borrow.Author.Needs.{needs}
+use Rattle.wire.proofs.Usual.{_-_, _≤_, length, needs}
 use Rattle.report_lines.proofs.lines.Statement.{statement}
 use Rattle.report_lines.proofs.lines.Tie as tie
 
@@ -14,18 +12,7 @@ abbrev μ-loop : tie.MeasureT-loop
 μ-loop records done₀ done = length records - done
 
 pub lines-spec : {M : Type 1} → statement M
-lines-spec =
-    tie.close
-    (tie.spec
-    Inv-loop
-    μ-loop
-    (λ c. search needs)
-    (λ c. search needs)
-    (λ c. search needs)
-    (λ c. search needs)
-    (λ c. search needs)
-    (λ c κs. search needs)
-    (λ c. search needs)
-    (λ c. search needs)
-    (λ c. search needs)
+lines-spec = tie.close (tie.spec
+    Inv-loop μ-loop (λ c. search needs) (λ c. search needs) (λ c. search needs) (λ c. search needs)
+    (λ c. search needs) (λ c κs. search needs) (λ c. search needs) (λ c. search needs) (λ c. search needs)
     (λ c. search needs))

@@ -1,6 +1,5 @@
 -- `tracer::counts_in` meets its contract: the bodies are those of the file's project.
-use mathlib.Core.Path.{_∙_}
-use borrow.Author.Needs.{needs}
+use Rattle.wire.proofs.Usual.{_∙_, needs}
 use Rattle.project.specs.Project.{countsOf}
 use Rattle.casefile.specs.Bodies.{projectOf}
 use Rattle.tracer.proofs.counts_in.Statement.{statement}
@@ -17,12 +16,6 @@ returns c =
     ∙ (λ i. countsOf (g .body .ensures i) (n .body2 .ensures i) (b .body3 .ensures i) (o .body4 .ensures i))
 
 pub counts-in-spec : {M : Type 1} → statement M
-counts-in-spec =
-    tie.close
-    (tie.spec
-    (λ c κs. search needs)
-    (λ c κs. search needs)
-    (λ c κs. search needs)
-    (λ c κs. search needs)
-    (λ c κs. search needs)
-    returns)
+counts-in-spec = tie.close (tie.spec
+    (λ c κs. search needs) (λ c κs. search needs) (λ c κs. search needs) (λ c κs. search needs)
+    (λ c κs. search needs) returns)

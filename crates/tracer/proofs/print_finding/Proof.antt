@@ -1,8 +1,5 @@
 -- `tracer::print_finding` is safe: a line is no longer than the buffer.
-use mathlib.Core.Path.{sym}
-use native.Mathlib.Omega.{arith}
-use borrow.Author.Needs.{needs}
-use lib.Seq.{length-take-le}
+use Rattle.wire.proofs.Usual.{sym, arith, needs, length-take-le}
 use Rattle.tracer.proofs.print_finding.Statement.{statement}
 use Rattle.tracer.proofs.print_finding.Tie as tie
 
@@ -12,15 +9,7 @@ slice-aggregate-write-all c =
     sym (length-take-le (line .result) (line .last .0) (omega (arith, line .kept .0, line .ensures)))
 
 pub print-finding-spec : {M : Type 1} → statement M
-print-finding-spec =
-    tie.close
-    (tie.spec
-    (λ c κs. search needs)
-    (λ c. search needs)
-    (λ c κs. search needs)
-    (λ c κs. search needs)
-    (λ c κs. search needs)
-    (λ c. search needs)
-    slice-aggregate-write-all
-    (λ c κs. search needs)
+print-finding-spec = tie.close (tie.spec
+    (λ c κs. search needs) (λ c. search needs) (λ c κs. search needs) (λ c κs. search needs)
+    (λ c κs. search needs) (λ c. search needs) slice-aggregate-write-all (λ c κs. search needs)
     (λ c. search needs))

@@ -1,6 +1,5 @@
 -- `tracer::print_findings` is safe and ends.
-use Prim.Native.Nat.{_-_, _≤_}
-use borrow.Author.Needs.{needs}
+use Rattle.wire.proofs.Usual.{_-_, _≤_, needs}
 use Rattle.tracer.proofs.print_findings.Statement.{statement}
 use Rattle.tracer.proofs.print_findings.Tie as tie
 
@@ -11,17 +10,6 @@ abbrev μ-loop : tie.MeasureT-loop
 μ-loop file blocks cycle k findings i₀ i = k - i
 
 pub print-findings-spec : {M : Type 1} → statement M
-print-findings-spec =
-    tie.close
-    (tie.spec
-    Inv-loop
-    μ-loop
-    (λ c. search needs)
-    (λ c. search needs)
-    (λ c. search needs)
-    (λ c κs. search needs)
-    (λ c κs. search needs)
-    (λ c. search needs)
-    (λ c. search needs)
-    (λ c. search needs)
-    (λ c. search needs))
+print-findings-spec = tie.close (tie.spec
+    Inv-loop μ-loop (λ c. search needs) (λ c. search needs) (λ c. search needs) (λ c κs. search needs)
+    (λ c κs. search needs) (λ c. search needs) (λ c. search needs) (λ c. search needs) (λ c. search needs))

@@ -1,11 +1,6 @@
 -- `tracer::run` meets its contract: before each turn the calls that are left are a run from the present state, and a
 -- turn takes the first of them.
-use mathlib.Core.Path.{_≡_, refl, sym, ap, _∙_}
-use Prim.Native.Nat.{_-_, _≤_, _<_}
-use native.Mathlib.Omega.{arith}
-use borrow.Author.Needs.{needs}
-use lib.ListN.{length}
-use denote.Ref.{now}
+use Rattle.wire.proofs.Usual.{_≡_, refl, sym, ap, _∙_, _-_, _≤_, _<_, arith, needs, length, now}
 use Rattle.casefile.specs.Bodies.{projectOf, recordOf}
 use Rattle.evaluator.specs.State.{stateLength}
 use Rattle.evaluator.proofs.FreshFormed.{fresh-length}
@@ -149,35 +144,22 @@ returns-2 c =
     ran (i .4) (t .loop-test .left) (c .before .low2 .ensures) (omega (arith, c .low3 .ensures, i .1))
 
 pub run-spec : {M : Type 1} → statement M
-run-spec =
-    tie.close
-    (tie.spec
-    Inv-loop
-    μ-loop
+run-spec = tie.close (tie.spec
+    Inv-loop μ-loop
     (λ c κs. size-some (c .before .before .before .before .before .before .before .before .pre .0))
-    loop-holds
-    (λ c κs. search needs)
-    errors-requires
-    (λ c. search needs)
-    step-requires
+    loop-holds (λ c κs. search needs) errors-requires (λ c. search needs) step-requires
     (λ c. let v = c .before .before .before .before in omega (arith, testing v, loop-of v .before .record-count .ok))
-    (λ c. search needs)
-    (λ c. search needs)
+    (λ c. search needs) (λ c. search needs)
     (λ c.
     let v = c .before .before .before .before .before .before .before in
     state-long v ∙ loop-of v .loop .inv .2)
     (λ c.
     let v = c .before .before .before .before .before .before .before in
     findings-long v ∙ loop-of v .loop .inv .3)
-    returns
-    (λ c κs. search needs)
-    print-requires
-    (λ c. search needs)
+    returns (λ c κs. search needs) print-requires (λ c. search needs)
     (λ c. let k = c .before .before .before in omega (arith, loop-of (stepped c) .loop .inv .1, k .known-told .given))
     (λ c. omega (arith, testing (stepped c)))
-    loop-again
-    (λ c κs. search needs)
-    (λ c κs. search needs)
+    loop-again (λ c κs. search needs) (λ c κs. search needs)
     (λ c. c .before .before .before .loop .inv .2)
     (λ c. c .before .before .before .loop .inv .3)
     returns-2)

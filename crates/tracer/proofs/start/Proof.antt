@@ -1,8 +1,6 @@
 -- `tracer::start` meets its contract: a fresh state that was written is that of an accepted file, and one that was not
 -- has the file's number.
-use mathlib.Core.Path.{_≡_, sym, _∙_}
-use borrow.Author.Needs.{needs}
-use denote.Ref.{now}
+use Rattle.wire.proofs.Usual.{_≡_, sym, _∙_, needs, now}
 use Rattle.casefile.specs.Bodies.{projectOf}
 use Rattle.evaluator.specs.Fresh.{freshNumber}
 use Rattle.tracer.proofs.Starting.{is-accepted, is-fresh, is-refused, is-run, ordered-of}
@@ -66,19 +64,7 @@ returns-2 c =
     r .run .ensures .0 ∙ is-run (now (a .file)) (now (a .state)) (zero-number e)
 
 pub start-spec : {M : Type 1} → statement M
-start-spec =
-    tie.close
-    (tie.spec
-    (λ c κs. search needs)
-    (λ c. search needs)
-    returns
-    (λ c κs. search needs)
-    (λ c κs. search needs)
-    (λ c κs. search needs)
-    (λ c κs. search needs)
-    order-requires
-    (λ c. search needs)
-    run-requires
-    (λ c. search needs)
-    (λ c. search needs)
-    returns-2)
+start-spec = tie.close (tie.spec
+    (λ c κs. search needs) (λ c. search needs) returns (λ c κs. search needs) (λ c κs. search needs)
+    (λ c κs. search needs) (λ c κs. search needs) order-requires (λ c. search needs) run-requires
+    (λ c. search needs) (λ c. search needs) returns-2)

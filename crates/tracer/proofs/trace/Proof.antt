@@ -1,10 +1,5 @@
 -- `tracer::trace` meets its contract: the buffers' parts have the sizes that the counts say.
-use mathlib.Core.Path.{sym, ap, ap₂, _∙_}
-use Prim.Native.Nat.{ℕ, _+_, _*_}
-use native.Mathlib.Omega.{arith}
-use borrow.Author.Needs.{needs}
-use lib.Seq.{length-take-le}
-use denote.Ref.{now}
+use Rattle.wire.proofs.Usual.{sym, ap, ap₂, _∙_, ℕ, _+_, _*_, arith, needs, length-take-le, now}
 use Rattle.block.specs.State.{stateSize}
 use Rattle.block.specs.Finding.{findingSize}
 use Rattle.evaluator.specs.State.{stateHead}
@@ -34,20 +29,10 @@ start-requires c κs =
     }
 
 pub trace-spec : {M : Type 1} → statement M
-trace-spec =
-    tie.close
-    (tie.spec
-    (λ c κs. search needs)
-    (λ c κs. search needs)
-    (λ c κs. search needs)
-    (λ c. search needs)
-    (λ c. search needs)
-    (λ c. search needs)
-    (λ c. search needs)
-    (λ c. search needs)
+trace-spec = tie.close (tie.spec
+    (λ c κs. search needs) (λ c κs. search needs) (λ c κs. search needs) (λ c. search needs) (λ c. search needs)
+    (λ c. search needs) (λ c. search needs) (λ c. search needs)
     (λ c. sym (length-take-le _ _ (omega (arith, c .before .least2 .ensures .0, c .before .before .least .ensures .0))))
     (λ c. search needs)
     (λ c. sym (length-take-le _ _ (omega (arith, c .before .before .before .least .ensures .0))))
-    start-requires
-    (λ c κs. search needs)
-    (λ c. search needs))
+    start-requires (λ c κs. search needs) (λ c. search needs))

@@ -11,16 +11,6 @@ abbrev μ-loop : tie.MeasureT-loop
 μ-loop _ _ _ turns = turns
 
 pub main-spec : {M : Type 1} → statement M
-main-spec =
-    tie.close
-    (tie.spec
-    Inv-loop
-    μ-loop
-    (λ c. search needs)
-    (λ c. tt)
-    (λ c κs. search needs)
-    (λ c. search needs)
-    (λ c. search needs)
-    (λ c. search needs)
-    (λ c. tt)
-    (λ c. search needs))
+main-spec = tie.close (tie.spec
+    Inv-loop μ-loop (λ c. search needs) (λ c. tt) (λ c κs. search needs) (λ c. search needs) (λ c. search needs)
+    (λ c. search needs) (λ c. tt) (λ c. search needs))

@@ -1,27 +1,16 @@
 -- `block::arithmetic_step` meets its contract: an arm for each outcome.
-use mathlib.Core.Path.{sym, _∙_}
-use denote.Ref.{now}
-use lib.Dec.{eqb}
+use Rattle.wire.proofs.Usual.{sym, _∙_, now, eqb, needs}
 use Rattle.block.specs.State.{decode, diagnosisOf}
 use Rattle.block.specs.Step.{arithmeticStep, arithmeticBytes}
 use Rattle.block.proofs.Enters.{fails-enters, holds-enters}
-use borrow.Author.Needs.{needs}
 use Rattle.block.proofs.arithmetic.arithmetic_step.Statement.{statement}
 use Rattle.block.proofs.arithmetic.arithmetic_step.Tie as tie
 
 pub arithmetic-step-spec : {M : Type 1} → statement M
 unfolding arithmeticBytes arithmeticStep decode
-arithmetic-step-spec =
-    tie.close
-    (tie.spec
-    (λ c κs. search needs)
-    (λ c. search needs)
-    (λ c κs. search needs)
-    (λ c. search needs)
-    (λ c κs. search needs)
-    (λ c. search needs)
-    (λ c κs. search needs)
-    (λ c. search needs)
+arithmetic-step-spec = tie.close (tie.spec
+    (λ c κs. search needs) (λ c. search needs) (λ c κs. search needs) (λ c. search needs) (λ c κs. search needs)
+    (λ c. search needs) (λ c κs. search needs) (λ c. search needs)
     (λ c.
     let k = c .before .before in
     let e = k .before .before in

@@ -1,14 +1,11 @@
 -- `block::result_of` meets its contract: the tests of the kind pick the operation.
-use mathlib.Core.Path.{_≡_, _∙_}
-use borrow.Author.Tests.{eq-eqb, ne-eqb}
-use denote.Ref.{now}
+use Rattle.wire.proofs.Usual.{_≡_, _∙_, eq-eqb, ne-eqb, now, needs}
 use Rattle.numbers.specs.Types.{typeOf}
 use Rattle.numbers.specs.Results.{outcome}
 use Rattle.numbers.specs.declared.Op.{Op}
 use Rattle.numbers.specs.declared.Op.the-variants.{Add, Sub, Mul, Div}
 use Rattle.kind.specs.Parameters.{firstType, secondType, outputType}
 use Rattle.block.specs.Arithmetic.{opOf, resultOf}
-use borrow.Author.Needs.{needs}
 use Rattle.block.proofs.arithmetic.result_of.Statement.{statement}
 use Rattle.block.proofs.arithmetic.result_of.Tie as tie
 
@@ -34,16 +31,9 @@ by-name c o =
 
 pub result-of-spec : {M : Type 1} → statement M
 unfolding resultOf opOf
-result-of-spec =
-    tie.close
-    (tie.spec
-    (λ c κs. search needs)
-    (λ c κs. search needs)
-    (λ c κs. search needs)
-    (λ c κs. search needs)
-    (λ c κs. search needs)
-    (λ c κs. search needs)
-    (λ c κs. search needs)
+result-of-spec = tie.close (tie.spec
+    (λ c κs. search needs) (λ c κs. search needs) (λ c κs. search needs) (λ c κs. search needs)
+    (λ c κs. search needs) (λ c κs. search needs) (λ c κs. search needs)
     (λ c. rw (eq-eqb _ 3 (c .before .if1 .taken)) (c .sum .ensures ∙ by-name (c .before .before) Add))
     (λ c κs. search needs)
     (λ c.
@@ -54,9 +44,7 @@ result-of-spec =
     let d = c .before .before in
     rw (ne-eqb _ 3 (d .before .if1 .left), ne-eqb _ 4 (d .if2 .left), eq-eqb _ 5 (c .before .if3 .taken))
     (c .product .ensures ∙ by-name (d .before .before) Mul))
-    (λ c κs. search needs)
-    (λ c κs. search needs)
-    (λ c κs. search needs)
+    (λ c κs. search needs) (λ c κs. search needs) (λ c κs. search needs)
     (λ c.
     let d = c .before .before .before in
     let e = d .before .before in

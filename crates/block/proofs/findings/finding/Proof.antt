@@ -6,15 +6,9 @@ use Rattle.block.proofs.findings.finding.Tie as tie
 
 pub finding-spec : {M : Type 1} → statement M
 unfolding findingOf saidOf
-finding-spec =
-    tie.close
-    (tie.spec
-    (λ c κs. search needs)
-    (λ c κs. search needs)
-    (λ c κs. search needs)
-    (λ c κs. search needs)
-    (λ c κs. search needs)
-    (λ c κs. search needs)
+finding-spec = tie.close (tie.spec
+    (λ c κs. search needs) (λ c κs. search needs) (λ c κs. search needs) (λ c κs. search needs)
+    (λ c κs. search needs) (λ c κs. search needs)
     (λ c.
     rw (
       c .pack .ensures,

@@ -6,15 +6,9 @@ use Rattle.block.proofs.findings.read_finding.Tie as tie
 
 pub read-finding-spec : {M : Type 1} → statement M
 unfolding findingIn
-read-finding-spec =
-    tie.close
-    (tie.spec
-    (λ c κs. search needs)
-    (λ c κs. search needs)
-    (λ c κs. search needs)
-    (λ c κs. search needs)
-    (λ c κs. search needs)
-    (λ c κs. search needs)
+read-finding-spec = tie.close (tie.spec
+    (λ c κs. search needs) (λ c κs. search needs) (λ c κs. search needs) (λ c κs. search needs)
+    (λ c κs. search needs) (λ c κs. search needs)
     (λ c.
     let a = c .before .before .before in
     λ i. record {

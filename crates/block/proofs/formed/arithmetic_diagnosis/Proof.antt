@@ -4,8 +4,6 @@ use Rattle.block.proofs.formed.arithmetic_diagnosis.Statement.{statemen
 use Rattle.block.proofs.formed.arithmetic_diagnosis.Tie as tie
 
 pub arithmetic-diagnosis-spec : {M : Type 1} → statement M
-arithmetic-diagnosis-spec =
-    tie.close
-    (tie.spec
+arithmetic-diagnosis-spec = tie.close (tie.spec
     (λ c. rw (eq-eqb _ 4 (c .if1 .taken)))
     (λ c. rw (ne-eqb _ 4 (c .if1 .left))))

@@ -6,13 +6,8 @@ use Rattle.block.proofs.formed.arithmetic_ok.Tie as tie
 
 pub arithmetic-ok-spec : {M : Type 1} → statement M
 unfolding arithmeticOk
-arithmetic-ok-spec =
-    tie.close
-    (tie.spec
-    (λ c κs. search needs)
-    (λ c κs. search needs)
-    (λ c κs. search needs)
-    (λ c κs. search needs)
+arithmetic-ok-spec = tie.close (tie.spec
+    (λ c κs. search needs) (λ c κs. search needs) (λ c κs. search needs) (λ c κs. search needs)
     (λ c.
     rw (
       c .fits2 .ensures,

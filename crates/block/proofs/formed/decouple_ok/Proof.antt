@@ -6,8 +6,6 @@ use Rattle.block.proofs.formed.decouple_ok.Tie as tie
 
 pub decouple-ok-spec : {M : Type 1} → statement M
 unfolding decoupleOk
-decouple-ok-spec =
-    tie.close
-    (tie.spec
+decouple-ok-spec = tie.close (tie.spec
     (λ c κs. search needs)
     (λ c. rw (c .untimed .ensures)))

@@ -6,7 +6,5 @@ use Rattle.block.proofs.formed.entry_ok.Tie as tie
 
 pub entry-ok-spec : {M : Type 1} → statement M
 unfolding entryOk
-entry-ok-spec =
-    tie.close
-    (tie.spec
+entry-ok-spec = tie.close (tie.spec
     (λ c. refl))

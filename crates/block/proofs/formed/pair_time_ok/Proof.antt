@@ -6,9 +6,6 @@ use Rattle.block.proofs.formed.pair_time_ok.Tie as tie
 
 pub pair-time-ok-spec : {M : Type 1} → statement M
 unfolding pairTimeOk
-pair-time-ok-spec =
-    tie.close
-    (tie.spec
-    (λ c. search needs)
-    (λ c κs. search needs)
+pair-time-ok-spec = tie.close (tie.spec
+    (λ c. search needs) (λ c κs. search needs)
     (λ c. rw (c .is-counting .ensures)))

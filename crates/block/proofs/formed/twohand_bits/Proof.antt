@@ -6,7 +6,5 @@ use Rattle.block.proofs.formed.twohand_bits.Tie as tie
 
 pub twohand-bits-spec : {M : Type 1} → statement M
 unfolding twohandBits
-twohand-bits-spec =
-    tie.close
-    (tie.spec
+twohand-bits-spec = tie.close (tie.spec
     (λ c. refl))

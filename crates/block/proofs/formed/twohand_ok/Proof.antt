@@ -6,13 +6,8 @@ use Rattle.block.proofs.formed.twohand_ok.Tie as tie
 
 pub twohand-ok-spec : {M : Type 1} → statement M
 unfolding twohandOk
-twohand-ok-spec =
-    tie.close
-    (tie.spec
-    (λ c κs. search needs)
-    (λ c κs. search needs)
-    (λ c κs. search needs)
-    (λ c κs. search needs)
+twohand-ok-spec = tie.close (tie.spec
+    (λ c κs. search needs) (λ c κs. search needs) (λ c κs. search needs) (λ c κs. search needs)
     (λ c κs. search needs)
     (λ c.
     rw (

@@ -6,15 +6,9 @@ use Rattle.block.proofs.formed.well_formed.Tie as tie
 
 pub well-formed-spec : {M : Type 1} → statement M
 unfolding wellFormed
-well-formed-spec =
-    tie.close
-    (tie.spec
-    (λ c κs. search needs)
-    (λ c κs. search needs)
-    (λ c κs. search needs)
-    (λ c κs. search needs)
-    (λ c κs. search needs)
-    (λ c κs. search needs)
+well-formed-spec = tie.close (tie.spec
+    (λ c κs. search needs) (λ c κs. search needs) (λ c κs. search needs) (λ c κs. search needs)
+    (λ c κs. search needs) (λ c κs. search needs)
     (λ c.
     let d = c .before .before in
     rw (

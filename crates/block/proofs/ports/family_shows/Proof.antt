@@ -6,18 +6,9 @@ use Rattle.block.proofs.ports.family_shows.Tie as tie
 
 pub family-shows-spec : {M : Type 1} → statement M
 unfolding showsOf
-family-shows-spec =
-    tie.close
-    (tie.spec
-    (λ c. search needs)
-    (λ c κs. search needs)
-    (λ c. search needs)
-    (λ c. search needs)
-    (λ c. search needs)
-    (λ c κs. search needs)
-    (λ c. search needs)
-    (λ c κs. search needs)
-    (λ c. search needs)
+family-shows-spec = tie.close (tie.spec
+    (λ c. search needs) (λ c κs. search needs) (λ c. search needs) (λ c. search needs) (λ c. search needs)
+    (λ c κs. search needs) (λ c. search needs) (λ c κs. search needs) (λ c. search needs)
     (λ c. rw (c .before .enum-told .given .1, c .read32 .ensures))
     (λ c. rw (c .before .enum-told2 .given .1) (c .twohand-shows .ensures))
     (λ c. rw (c .before .enum-told3 .given .1) (c .arithmetic-shows .ensures))

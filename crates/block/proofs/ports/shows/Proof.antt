@@ -6,9 +6,6 @@ use Rattle.block.proofs.ports.shows.Tie as tie
 
 pub shows-spec : {M : Type 1} → statement M
 unfolding shows
-shows-spec =
-    tie.close
-    (tie.spec
-    (λ c κs. search needs)
-    (λ c κs. search needs)
+shows-spec = tie.close (tie.spec
+    (λ c κs. search needs) (λ c κs. search needs)
     (λ c. rw (c .family-shows .ensures, c .before .family-of .ensures)))

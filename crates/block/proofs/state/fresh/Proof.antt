@@ -6,9 +6,6 @@ use Rattle.block.proofs.state.fresh.Tie as tie
 
 pub fresh-spec : {M : Type 1} → statement M
 unfolding freshBytes
-fresh-spec =
-    tie.close
-    (tie.spec
-    (λ c κs. search needs)
-    (λ c κs. search needs)
+fresh-spec = tie.close (tie.spec
+    (λ c κs. search needs) (λ c κs. search needs)
     (λ c. rw (c .pack .ensures, c .before .plain .ensures)))

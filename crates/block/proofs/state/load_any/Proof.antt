@@ -6,15 +6,9 @@ use Rattle.block.proofs.state.load_any.Tie as tie
 
 pub load-any-spec : {M : Type 1} → statement M
 unfolding decode
-load-any-spec =
-    tie.close
-    (tie.spec
-    (λ c κs. search needs)
-    (λ c κs. search needs)
-    (λ c κs. search needs)
-    (λ c κs. search needs)
-    (λ c κs. search needs)
-    (λ c κs. search needs)
+load-any-spec = tie.close (tie.spec
+    (λ c κs. search needs) (λ c κs. search needs) (λ c κs. search needs) (λ c κs. search needs)
+    (λ c κs. search needs) (λ c κs. search needs)
     (λ c.
     let a = c .before .before .before in
     λ i. record {

@@ -1,19 +1,13 @@
 -- `block::judged` meets its contract: the errors first, then the transition.
-use mathlib.Core.Path.{sym, _∙_}
-use borrow.Author.Tests.{eq-eqb, ne-eqb}
+use Rattle.wire.proofs.Usual.{sym, _∙_, eq-eqb, ne-eqb, needs}
 use Rattle.block.specs.Twohand.{judged}
-use borrow.Author.Needs.{needs}
 use Rattle.block.proofs.twohand.judged.Statement.{statement}
 use Rattle.block.proofs.twohand.judged.Tie as tie
 
 pub judged-spec : {M : Type 1} → statement M
 unfolding judged
-judged-spec =
-    tie.close
-    (tie.spec
-    (λ c κs. search needs)
-    (λ c κs. search needs)
-    (λ c κs. search needs)
+judged-spec = tie.close (tie.spec
+    (λ c κs. search needs) (λ c κs. search needs) (λ c κs. search needs)
     (λ c.
     let d = c .before .before in
     rw (eq-eqb _ 0 (sym (d .before .error-bits .ensures) ∙ d .if1 .taken))

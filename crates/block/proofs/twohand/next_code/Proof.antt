@@ -6,9 +6,7 @@ use Rattle.block.proofs.twohand.next_code.Tie as tie
 
 pub next-code-spec : {M : Type 1} → statement M
 unfolding nextCode
-next-code-spec =
-    tie.close
-    (tie.spec
+next-code-spec = tie.close (tie.spec
     (λ c. rw (eq-eqb _ 3 (c .before .if1 .taken), c .if2 .taken))
     (λ c. rw (eq-eqb _ 3 (c .before .before .if1 .taken), c .before .if2 .left, c .if3 .taken))
     (λ c. rw (eq-eqb _ 3 (c .before .before .if1 .taken), c .before .if2 .left, c .if3 .left))

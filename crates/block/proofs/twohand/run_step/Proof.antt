@@ -1,15 +1,11 @@
 -- `block::run_step` meets its contract: the transition alone, or the whole rule.
-use mathlib.Core.Path.{_≡_, sym, _∙_}
-use mathlib.Core.Bool.{false, not}
-use borrow.Author.Tests.{not-true}
-use denote.Ref.{now}
+use Rattle.wire.proofs.Usual.{_≡_, sym, _∙_, false, not, not-true, now, needs}
 use Rattle.wire.proofs.Places.{both-left, both-right}
 use Rattle.kind.specs.Parameters.{activeMask}
 use Rattle.block.specs.State.{isWaiting, codeOf, decode, encode, entersFrom}
 use Rattle.block.specs.Twohand.{handsOf}
 use Rattle.block.specs.Asks.{Even}
 use Rattle.block.proofs.Steady.{steady, moves-on}
-use borrow.Author.Needs.{needs}
 use Rattle.block.proofs.twohand.run_step.Statement.{statement}
 use Rattle.block.proofs.twohand.run_step.Tie as tie
 
@@ -48,25 +44,11 @@ stays c =
 
 pub run-step-spec : {M : Type 1} → statement M
 unfolding decode encode entersFrom
-run-step-spec =
-    tie.close
-    (tie.spec
-    (λ c κs. search needs)
-    (λ c κs. search needs)
-    (λ c κs. search needs)
-    (λ c κs. search needs)
-    (λ c κs. search needs)
-    (λ c κs. search needs)
-    (λ c κs. search needs)
-    (λ c κs. search needs)
-    (λ c κs. search needs)
-    (λ c. search needs)
-    stays
-    (λ c κs. search needs)
-    (λ c κs. search needs)
-    (λ c κs. search needs)
-    (λ c κs. search needs)
-    (λ c. search needs)
+run-step-spec = tie.close (tie.spec
+    (λ c κs. search needs) (λ c κs. search needs) (λ c κs. search needs) (λ c κs. search needs)
+    (λ c κs. search needs) (λ c κs. search needs) (λ c κs. search needs) (λ c κs. search needs)
+    (λ c κs. search needs) (λ c. search needs) stays (λ c κs. search needs) (λ c κs. search needs)
+    (λ c κs. search needs) (λ c κs. search needs) (λ c. search needs)
     (λ c.
     let k = c .before .before .before in
     let r = k .before .before in (

@@ -6,9 +6,7 @@ use Rattle.block.proofs.twohand.time_since.Tie as tie
 
 pub time-since-spec : {M : Type 1} → statement M
 unfolding timeSince
-time-since-spec =
-    tie.close
-    (tie.spec
+time-since-spec = tie.close (tie.spec
     (λ c. search needs)
     (λ c. rw (c .if1 .taken))
     (λ c. rw (c .if1 .left)))

@@ -4,13 +4,8 @@ use Rattle.block.proofs.twohand.times_of.Statement.{statement}
 use Rattle.block.proofs.twohand.times_of.Tie as tie
 
 pub times-of-spec : {M : Type 1} → statement M
-times-of-spec =
-    tie.close
-    (tie.spec
-    (λ c κs. search needs)
-    (λ c κs. search needs)
-    (λ c κs. search needs)
-    (λ c κs. search needs)
+times-of-spec = tie.close (tie.spec
+    (λ c κs. search needs) (λ c κs. search needs) (λ c κs. search needs) (λ c κs. search needs)
     (λ c κs. search needs)
     (λ c.
     let a = c .before .before in

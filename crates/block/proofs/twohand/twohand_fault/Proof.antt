@@ -6,13 +6,8 @@ use Rattle.block.proofs.twohand.twohand_fault.Tie as tie
 
 pub twohand-fault-spec : {M : Type 1} → statement M
 unfolding twohandFault
-twohand-fault-spec =
-    tie.close
-    (tie.spec
-    (λ c κs. search needs)
-    (λ c κs. search needs)
-    (λ c κs. search needs)
-    (λ c κs. search needs)
+twohand-fault-spec = tie.close (tie.spec
+    (λ c κs. search needs) (λ c κs. search needs) (λ c κs. search needs) (λ c κs. search needs)
     (λ c.
     let w = c .before .before in
     rw (c .differs2 .ensures, c .before .differs .ensures, w .wide .ensures, w .before .active-mask .ensures)))

@@ -6,15 +6,9 @@ use Rattle.block.proofs.twohand.twohand_run.Tie as tie
 
 pub twohand-run-spec : {M : Type 1} → statement M
 unfolding twohandRun
-twohand-run-spec =
-    tie.close
-    (tie.spec
-    (λ c κs. search needs)
-    (λ c κs. search needs)
-    (λ c κs. search needs)
-    (λ c κs. search needs)
-    (λ c κs. search needs)
-    (λ c κs. search needs)
+twohand-run-spec = tie.close (tie.spec
+    (λ c κs. search needs) (λ c κs. search needs) (λ c κs. search needs) (λ c κs. search needs)
+    (λ c κs. search needs) (λ c κs. search needs)
     (λ c.
     let t = c .before .before in
     let l = t .before in

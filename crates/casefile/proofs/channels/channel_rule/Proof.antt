@@ -7,17 +7,9 @@ use Rattle.casefile.proofs.channels.channel_rule.Tie as tie
 
 pub channel-rule-spec : {M : Type 1} → statement M
 unfolding channelRuleOf
-channel-rule-spec =
-    tie.close
-    (tie.spec
-    (λ c κs. search needs)
-    (λ c κs. search needs)
-    (λ c. search needs)
-    (λ c κs. search needs)
-    (λ c κs. search needs)
-    (λ c. search needs)
-    (λ c. search needs)
-    (λ c. search needs)
+channel-rule-spec = tie.close (tie.spec
+    (λ c κs. search needs) (λ c κs. search needs) (λ c. search needs) (λ c κs. search needs)
+    (λ c κs. search needs) (λ c. search needs) (λ c. search needs) (λ c. search needs)
     (λ c.
     let s = c .before in
     let t = s .before in

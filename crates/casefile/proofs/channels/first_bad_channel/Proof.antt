@@ -1,11 +1,7 @@
 -- `casefile::channels::first_bad_channel` meets its contract: the loop passes channels at which the test holds, and
 -- stops at the first other.
-use mathlib.Core.Path.{_≡_, _∙_}
-use native.Mathlib.Omega.{arith}
-use Prim.Native.Nat.{_-_}
+use Rattle.wire.proofs.Usual.{_≡_, _∙_, arith, _-_, needs, now}
 use Rattle.wire.proofs.Places.{Passed, begin, more, hit, done}
-use borrow.Author.Needs.{needs}
-use denote.Ref.{now}
 use Rattle.project.specs.Project.{linkCount}
 use Rattle.casefile.specs.Rules.{channelRule}
 use Rattle.casefile.specs.Asks.{markOf, channelBy}
@@ -31,21 +27,14 @@ test c =
     ∙ (λ i. channelRule (h .before .block-record .ensures i) (h .loop .p) (markOf (now (a .marks)) (a .b) (h .loop .p)))
 
 pub first-bad-channel-spec : {M : Type 1} → statement M
-first-bad-channel-spec =
-    tie.close
-    (tie.spec
-    Inv-loop
-    μ-loop
-    (λ c κs. search needs)
+first-bad-channel-spec = tie.close (tie.spec
+    Inv-loop μ-loop (λ c κs. search needs)
     (λ c. begin _ _)
-    (λ c. search needs)
-    (λ c. search needs)
-    (λ c. search needs)
+    (λ c. search needs) (λ c. search needs) (λ c. search needs)
     (λ c. omega (arith, c .before .before .before .before .before .before .pre .0))
     (λ c κs. search needs)
     (λ c. hit (c .before .before .before .before .loop .inv) (test (c .before)) (c .if1 .taken))
-    (λ c. search needs)
-    (λ c. search needs)
+    (λ c. search needs) (λ c. search needs)
     (λ c.
     let l = c .before .before .before in
     more (l .before .loop .inv) (l .loop-test .taken) (test (c .before)) (c .if1 .left))

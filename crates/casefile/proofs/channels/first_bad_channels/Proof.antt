@@ -1,11 +1,8 @@
 -- `casefile::channels::first_bad_channels` meets its contract: the loop passes blocks at which the test holds, and
 -- stops at the first other.
-use mathlib.Core.Path.{refl, sym}
-use native.Mathlib.Omega.{arith}
-use Prim.Native.Nat.{_-_}
+use Rattle.wire.proofs.Usual.{refl, sym, arith, _-_, needs}
 use Rattle.wire.specs.Places.{all}
 use Rattle.wire.proofs.Places.{Passed, begin, more, hit, done, is, is-not}
-use borrow.Author.Needs.{needs}
 use Rattle.project.specs.Project.{blockCount}
 use Rattle.casefile.specs.Asks.{channelsBy}
 use Rattle.casefile.proofs.channels.first_bad_channels.Statement.{statement}
@@ -19,19 +16,15 @@ abbrev μ-loop : tie.MeasureT-loop
 
 pub first-bad-channels-spec : {M : Type 1} → statement M
 unfolding channelsBy all blockCount
-first-bad-channels-spec =
-    tie.close
-    (tie.spec
-    Inv-loop
-    μ-loop
+first-bad-channels-spec = tie.close (tie.spec
+    Inv-loop μ-loop
     (λ c. begin _ _)
     (λ c κs.
     let a = c .before .before .before .before in
     (a .pre .0, omega (arith, a .pre .1, c .loop-test .taken)))
     (λ c. hit (c .before .before .before .loop .inv)
     (sym (is-not (c .before .first-bad-channel .ensures) (c .if1 .taken))) refl)
-    (λ c. search needs)
-    (λ c. search needs)
+    (λ c. search needs) (λ c. search needs)
     (λ c. more (c .before .before .before .loop .inv) (c .before .before .loop-test .taken)
     (sym (is (c .before .first-bad-channel .ensures) (c .if1 .left))) refl)
     (λ c. done (c .before .loop .inv) (c .loop-test .left)))

@@ -1,20 +1,12 @@
 -- `casefile::channels::first_unread` meets its contract: the marks are those of all links and of O.
-use mathlib.Core.Path.{_∙_}
+use Rattle.wire.proofs.Usual.{_∙_, needs, now}
 use Rattle.casefile.proofs.Marking.{unread}
-use borrow.Author.Needs.{needs}
-use denote.Ref.{now}
 use Rattle.casefile.proofs.channels.first_unread.Statement.{statement}
 use Rattle.casefile.proofs.channels.first_unread.Tie as tie
 
 pub first-unread-spec : {M : Type 1} → statement M
-first-unread-spec =
-    tie.close
-    (tie.spec
-    (λ c. search needs)
-    (λ c κs. search needs)
-    (λ c. search needs)
-    (λ c κs. search needs)
-    (λ c. search needs)
+first-unread-spec = tie.close (tie.spec
+    (λ c. search needs) (λ c κs. search needs) (λ c. search needs) (λ c κs. search needs) (λ c. search needs)
     (λ c κs. search needs)
     (λ c.
     let o = c .before .before .before in

@@ -1,10 +1,6 @@
 -- `casefile::channels::mark_blocks` meets its contract: each turn marks what the links of one block name.
-use mathlib.Core.Path.{sym, _∙_, subst}
-use mathlib.Core.List.{List}
-use Prim.Native.Nat.{ℕ, _-_}
+use Rattle.wire.proofs.Usual.{sym, _∙_, subst, List, ℕ, _-_, needs, now}
 use Rattle.casefile.proofs.Marking.{Marking, marking-begin, marking-more, marking-end}
-use borrow.Author.Needs.{needs}
-use denote.Ref.{now}
 use Rattle.project.specs.Project.{blockCount, linkCount}
 use Rattle.casefile.specs.Asks.{Marked}
 use Rattle.casefile.specs.Rules.{blockPasses, linkPasses}
@@ -31,19 +27,14 @@ loop-again c =
 
 pub mark-blocks-spec : {M : Type 1} → statement M
 unfolding blockPasses blockCount
-mark-blocks-spec =
-    tie.close
-    (tie.spec
-    Inv-loop
-    μ-loop
+mark-blocks-spec = tie.close (tie.spec
+    Inv-loop μ-loop
     (λ c.
     let a = c .before .before in
     let B = now (a .args .blocks) in
     marking-begin (blockPasses B) (blockCount B) (now (a .args .marks)) (a .pre))
     (λ c κs. search needs)
     (λ c κs. c .before .before .before .loop .inv .long)
-    (λ c. search needs)
-    (λ c. search needs)
-    loop-again
+    (λ c. search needs) (λ c. search needs) loop-again
     (λ c. c .before .loop .inv .long ∙ sym (c .before .before .before .before .pre))
     (λ c. marking-end (c .before .loop .inv) (c .loop-test .left)))

@@ -1,11 +1,8 @@
 -- `casefile::channels::mark_links` meets its contract: each turn marks what one link names.
-use mathlib.Core.Path.{sym, _∙_, subst}
-use Prim.Native.Nat.{_-_}
+use Rattle.wire.proofs.Usual.{sym, _∙_, subst, _-_, needs, now}
 use Rattle.project.specs.declared.Source.{Source}
 use Rattle.project.specs.Project.{linkCount}
 use Rattle.casefile.proofs.Marking.{Marking, marking-begin, marking-more, marking-end}
-use borrow.Author.Needs.{needs}
-use denote.Ref.{now}
 use Rattle.casefile.specs.Asks.{Marked}
 use Rattle.casefile.specs.Rules.{linkPasses, passes}
 use Rattle.casefile.proofs.channels.mark_links.Statement.{statement}
@@ -28,18 +25,13 @@ loop-again c =
 
 pub mark-links-spec : {M : Type 1} → statement M
 unfolding linkPasses
-mark-links-spec =
-    tie.close
-    (tie.spec
-    Inv-loop
-    μ-loop
+mark-links-spec = tie.close (tie.spec
+    Inv-loop μ-loop
     (λ c.
     let a = c .before .before in
     marking-begin (linkPasses (now (a .args .r))) linkCount (now (a .args .marks)) (a .pre))
     (λ c κs. search needs)
     (λ c κs. c .before .before .before .loop .inv .long)
-    (λ c. search needs)
-    (λ c. search needs)
-    loop-again
+    (λ c. search needs) (λ c. search needs) loop-again
     (λ c. c .before .loop .inv .long ∙ sym (c .before .before .before .before .pre))
     (λ c. marking-end (c .before .loop .inv) (c .loop-test .left)))

@@ -1,11 +1,8 @@
 -- `casefile::channels::mark_outputs` meets its contract: each turn marks the port of one record of O.
-use mathlib.Core.Path.{sym, ap, _∙_, subst}
-use Prim.Native.Nat.{_-_}
+use Rattle.wire.proofs.Usual.{sym, ap, _∙_, subst, _-_, needs, now}
 use Rattle.project.specs.declared.Source.{Source}
 use Rattle.project.specs.declared.Source.the-variants.{Output}
 use Rattle.casefile.proofs.Marking.{Marking, marking-begin, marking-more, marking-end}
-use borrow.Author.Needs.{needs}
-use denote.Ref.{now}
 use Rattle.project.specs.Project.{outputCount, outputBlockIn, outputPortIn}
 use Rattle.casefile.specs.Asks.{Marked}
 use Rattle.casefile.specs.Rules.{passes, outputPasses}
@@ -34,21 +31,14 @@ loop-again c =
 
 pub mark-outputs-spec : {M : Type 1} → statement M
 unfolding passes outputPasses outputCount
-mark-outputs-spec =
-    tie.close
-    (tie.spec
-    Inv-loop
-    μ-loop
+mark-outputs-spec = tie.close (tie.spec
+    Inv-loop μ-loop
     (λ c.
     let a = c .before .before in
     let O = now (a .args .outputs) in
     marking-begin (outputPasses O) (outputCount O) (now (a .args .marks)) (a .pre))
-    (λ c κs. search needs)
-    (λ c κs. search needs)
-    (λ c κs. search needs)
+    (λ c κs. search needs) (λ c κs. search needs) (λ c κs. search needs)
     (λ c κs. c .before .before .before .before .before .loop .inv .long)
-    (λ c. search needs)
-    (λ c. search needs)
-    loop-again
+    (λ c. search needs) (λ c. search needs) loop-again
     (λ c. c .before .loop .inv .long ∙ sym (c .before .before .before .before .pre))
     (λ c. marking-end (c .before .loop .inv) (c .loop-test .left)))

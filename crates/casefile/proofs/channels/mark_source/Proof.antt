@@ -1,20 +1,14 @@
 -- `casefile::channels::mark_source` meets its contract: only a block's output is marked.
 use Rattle.casefile.proofs.Marking.{unmarked}
-use borrow.Author.Needs.{needs}
-use denote.Ref.{now}
+use Rattle.wire.proofs.Usual.{needs, now}
 use Rattle.casefile.specs.Rules.{passes}
 use Rattle.casefile.proofs.channels.mark_source.Statement.{statement}
 use Rattle.casefile.proofs.channels.mark_source.Tie as tie
 
 pub mark-source-spec : {M : Type 1} → statement M
 unfolding passes
-mark-source-spec =
-    tie.close
-    (tie.spec
-    (λ c. search needs)
-    (λ c. search needs)
-    (λ c. search needs)
-    (λ c κs. search needs)
+mark-source-spec = tie.close (tie.spec
+    (λ c. search needs) (λ c. search needs) (λ c. search needs) (λ c κs. search needs)
     (λ c. let a = c .before .before .before .args in
     unmarked (now (a .marks)) (passes (a .s)) (λ b p l m. rw (c .enum-told .given .1)))
     (λ c. let a = c .before .before .before .args in

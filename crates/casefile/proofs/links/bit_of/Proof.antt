@@ -1,17 +1,13 @@
 -- `casefile::links::bit_of` meets its contract: the bit of each port is written out.
-use mathlib.Core.Path.{_≡_, sym, ap}
-use Prim.Native.Nat.{ℕ, _%_}
+use Rattle.wire.proofs.Usual.{_≡_, sym, ap, ℕ, _%_, arith}
 use native.Mathlib.Nat.{div-one}
-use native.Mathlib.Omega.{arith}
 use Rattle.casefile.specs.Rules.{bitOf}
 use Rattle.casefile.proofs.links.bit_of.Statement.{statement}
 use Rattle.casefile.proofs.links.bit_of.Tie as tie
 
 pub bit-of-spec : {M : Type 1} → statement M
 unfolding bitOf
-bit-of-spec =
-    tie.close
-    (tie.spec
+bit-of-spec = tie.close (tie.spec
     (λ c. rw (c .match .keys1) (ap (λ (n : ℕ). n % 2) (sym (div-one (c .before .args .mask)))))
     (λ c. rw (c .match .keys2))
     (λ c. rw (c .match .keys3))

@@ -1,12 +1,8 @@
 -- `casefile::links::first_bad_links` meets its contract: the loop passes blocks at which the test holds, and stops at
 -- the first other.
-use mathlib.Core.Path.{_≡_, refl, sym, ap, _∙_}
-use mathlib.Core.List.{List}
-use Prim.Native.Nat.{ℕ, _-_}
+use Rattle.wire.proofs.Usual.{_≡_, refl, sym, ap, _∙_, List, ℕ, _-_, needs, now}
 use Rattle.wire.specs.Places.{firstBad, all}
 use Rattle.wire.proofs.Places.{Passed, begin, more, hit, done, is, is-not}
-use borrow.Author.Needs.{needs}
-use denote.Ref.{now}
 use Rattle.project.specs.Project.{inputCount, blockCount, blockRecord, linkCount}
 use Rattle.casefile.specs.Rules.{linkOk, linksOk}
 use Rattle.casefile.proofs.links.first_bad_links.Statement.{statement}
@@ -32,17 +28,12 @@ test c =
 
 pub first-bad-links-spec : {M : Type 1} → statement M
 unfolding linksOk all blockCount inputCount
-first-bad-links-spec =
-    tie.close
-    (tie.spec
-    Inv-loop
-    μ-loop
+first-bad-links-spec = tie.close (tie.spec
+    Inv-loop μ-loop
     (λ c. begin _ _)
-    (λ c κs. search needs)
-    (λ c κs. search needs)
+    (λ c κs. search needs) (λ c κs. search needs)
     (λ c. hit (c .before .before .before .before .loop .inv) (sym (is-not (test (c .before)) (c .if1 .taken))) refl)
-    (λ c. search needs)
-    (λ c. search needs)
+    (λ c. search needs) (λ c. search needs)
     (λ c. more (c .before .before .before .before .loop .inv) (c .before .before .before .loop-test .taken)
     (sym (is (test (c .before)) (c .if1 .left))) refl)
     (λ c. done (c .before .loop .inv) (c .loop-test .left)))

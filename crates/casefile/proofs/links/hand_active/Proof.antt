@@ -7,14 +7,9 @@ use Rattle.casefile.proofs.links.hand_active.Tie as tie
 
 pub hand-active-spec : {M : Type 1} → statement M
 unfolding handActive
-hand-active-spec =
-    tie.close
-    (tie.spec
+hand-active-spec = tie.close (tie.spec
     (λ c. rw (le-leb 4 _ (c .if1 .taken)))
-    (λ c κs. search needs)
-    (λ c κs. search needs)
-    (λ c κs. search needs)
-    (λ c κs. search needs)
+    (λ c κs. search needs) (λ c κs. search needs) (λ c κs. search needs) (λ c κs. search needs)
     (λ c κs. search needs)
     (λ c.
     let m = c .before in

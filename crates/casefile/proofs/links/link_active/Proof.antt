@@ -7,16 +7,9 @@ use Rattle.casefile.proofs.links.link_active.Tie as tie
 
 pub link-active-spec : {M : Type 1} → statement M
 unfolding linkActiveOf
-link-active-spec =
-    tie.close
-    (tie.spec
-    (λ c κs. search needs)
-    (λ c κs. search needs)
-    (λ c. search needs)
-    (λ c. search needs)
-    (λ c κs. search needs)
-    (λ c. search needs)
-    (λ c. search needs)
+link-active-spec = tie.close (tie.spec
+    (λ c κs. search needs) (λ c κs. search needs) (λ c. search needs) (λ c. search needs) (λ c κs. search needs)
+    (λ c. search needs) (λ c. search needs)
     (λ c. let f = c .before .before in
     rw (told (f .before .kind-of .ensures) (f .family-of .ensures) (c .enum-told .given .1)))
     (λ c. let t = c .before in let f = t .before .before in

@@ -1,10 +1,6 @@
 -- `casefile::links::link_known` meets its contract: the kind of the link says which case of `linkKnown` holds.
-use mathlib.Core.Path.{ap, _∙_}
-use mathlib.Core.Bool.{_&&_}
-use lib.Dec.{eqb, ltb}
+use Rattle.wire.proofs.Usual.{ap, _∙_, _&&_, eqb, ltb, needs, now}
 use Rattle.wire.proofs.Places.{is, is-not}
-use borrow.Author.Needs.{needs}
-use denote.Ref.{now}
 use Rattle.project.specs.Project.{kindIn}
 use Rattle.project.specs.Project.{kindOf}
 use Rattle.casefile.specs.Rules.{linkKnown}
@@ -53,20 +49,7 @@ returns-3 c =
 
 pub link-known-spec : {M : Type 1} → statement M
 unfolding linkKnown
-link-known-spec =
-    tie.close
-    (tie.spec
-    (λ c κs. search needs)
-    (λ c κs. search needs)
-    (λ c κs. search needs)
-    returns
-    (λ c κs. search needs)
-    (λ c κs. search needs)
-    (λ c. search needs)
-    returns-2
-    (λ c. search needs)
-    (λ c κs. search needs)
-    (λ c. search needs)
-    (λ c κs. search needs)
-    (λ c κs. search needs)
-    returns-3)
+link-known-spec = tie.close (tie.spec
+    (λ c κs. search needs) (λ c κs. search needs) (λ c κs. search needs) returns (λ c κs. search needs)
+    (λ c κs. search needs) (λ c. search needs) returns-2 (λ c. search needs) (λ c κs. search needs)
+    (λ c. search needs) (λ c κs. search needs) (λ c κs. search needs) returns-3)

@@ -1,11 +1,7 @@
 -- `casefile::links::link_ok` meets its contract: one test after the other.
-use mathlib.Core.Path.{_≡_, _∙_, ap}
-use Prim.Native.Nat.{ℕ}
+use Rattle.wire.proofs.Usual.{_≡_, _∙_, ap, ℕ, _&&_, needs, now}
 use Rattle.project.specs.Project.{inputCount}
-use mathlib.Core.Bool.{_&&_}
 use Rattle.wire.proofs.Places.{ok, bad}
-use borrow.Author.Needs.{needs}
-use denote.Ref.{now}
 use Rattle.casefile.specs.Rules.{linkKnown, linkOk, sourceFits}
 use Rattle.casefile.proofs.links.link_ok.Statement.{statement}
 use Rattle.casefile.proofs.links.link_ok.Tie as tie
@@ -32,12 +28,7 @@ returns-2 c =
 
 pub link-ok-spec : {M : Type 1} → statement M
 unfolding linkOk
-link-ok-spec =
-    tie.close
-    (tie.spec
+link-ok-spec = tie.close (tie.spec
     (λ c κs. search needs)
     (λ c. rw (bad (known (c .before)) (c .if1 .taken)))
-    (λ c κs. search needs)
-    (λ c κs. search needs)
-    (λ c κs. search needs)
-    returns-2)
+    (λ c κs. search needs) (λ c κs. search needs) (λ c κs. search needs) returns-2)

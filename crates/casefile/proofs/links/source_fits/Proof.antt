@@ -1,9 +1,6 @@
 -- `casefile::links::source_fits` meets its contract: what the link names says which case holds.
-use mathlib.Core.Path.{sym, ap, _∙_}
-use mathlib.Core.Bool.{_&&_}
+use Rattle.wire.proofs.Usual.{sym, ap, _∙_, _&&_, eqb, needs}
 use mathlib.Core.Bool.{and-true}
-use lib.Dec.{eqb}
-use borrow.Author.Needs.{needs}
 use Rattle.project.specs.Project.{inputTypeIn, inputGroupIn, kindIn, parametersIn}
 use Rattle.casefile.specs.Rules.{sourceFits, sourceTyped, sourceGrouped}
 use Rattle.kind.specs.Ports.{typeIn, typeOut}
@@ -45,28 +42,11 @@ returns-3 c =
 
 pub source-fits-spec : {M : Type 1} → statement M
 unfolding sourceFits sourceTyped sourceGrouped
-source-fits-spec =
-    tie.close
-    (tie.spec
-    (λ c. search needs)
-    (λ c. search needs)
-    (λ c. search needs)
-    (λ c κs. search needs)
-    (λ c κs. search needs)
-    (λ c κs. search needs)
-    (λ c κs. search needs)
-    (λ c κs. search needs)
-    (λ c κs. search needs)
-    (λ c κs. search needs)
-    (λ c. search needs)
-    (λ c. search needs)
-    (λ c κs. search needs)
-    (λ c κs. search needs)
-    (λ c κs. search needs)
-    (λ c κs. search needs)
-    (λ c κs. search needs)
-    (λ c κs. search needs)
+source-fits-spec = tie.close (tie.spec
+    (λ c. search needs) (λ c. search needs) (λ c. search needs) (λ c κs. search needs) (λ c κs. search needs)
+    (λ c κs. search needs) (λ c κs. search needs) (λ c κs. search needs) (λ c κs. search needs)
+    (λ c κs. search needs) (λ c. search needs) (λ c. search needs) (λ c κs. search needs) (λ c κs. search needs)
+    (λ c κs. search needs) (λ c κs. search needs) (λ c κs. search needs) (λ c κs. search needs)
     (λ c κs. search needs)
     (λ c. rw (c .enum-told .given .1))
-    returns-2
-    returns-3)
+    returns-2 returns-3)

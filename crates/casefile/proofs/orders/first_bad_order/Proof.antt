@@ -1,12 +1,8 @@
 -- `casefile::orders::first_bad_order` meets its contract: the marks say whether an earlier block has the number.
-use mathlib.Core.Path.{_≡_, refl, ap, _∙_}
-use Prim.Native.Nat.{_-_, _<_}
-use native.Mathlib.Omega.{arith}
+use Rattle.wire.proofs.Usual.{_≡_, refl, ap, _∙_, _-_, _<_, arith, needs, now}
 use lib.ListN.{getD-replicate}
 use Rattle.wire.proofs.Places.{Passed, begin, more, hit, done}
 use Rattle.casefile.proofs.Numbers.{Seen, too-high, seen-before, not-seen, seen-more, seen-none}
-use borrow.Author.Needs.{needs}
-use denote.Ref.{now}
 use Rattle.project.specs.Project.{blockCount, orderIn, orderOf}
 use Rattle.casefile.specs.Rules.{orderOk}
 use Rattle.casefile.proofs.orders.first_bad_order.Statement.{statement}
@@ -42,15 +38,10 @@ loop-again c =
 
 pub first-bad-order-spec : {M : Type 1} → statement M
 unfolding blockCount
-first-bad-order-spec =
-    tie.close
-    (tie.spec
-    Inv-loop
-    μ-loop
+first-bad-order-spec = tie.close (tie.spec
+    Inv-loop μ-loop
     (λ c. (begin _ _, seen-none (now (c .before .args .blocks)) _ refl (λ e l. getD-replicate 64 e 0 0 l)))
-    (λ c κs. search needs)
-    (λ c κs. search needs)
-    (λ c. search needs)
+    (λ c κs. search needs) (λ c κs. search needs) (λ c. search needs)
     (λ c.
     let d = c .before in
     hit (d .before .before .before .loop .inv .0) (too-high _ _ (d .order-of .result) (number d) (c .if1 .taken)) refl)
@@ -61,7 +52,5 @@ first-bad-order-spec =
     let h = d .before .before .before .loop in
     hit (h .inv .0) (seen-before _ _ _ _ (h .inv .1) (number d) (e .if1 .left) (few e) (c .if2 .taken)) refl)
     (λ c. few (c .before))
-    (λ c. search needs)
-    (λ c. search needs)
-    loop-again
+    (λ c. search needs) (λ c. search needs) loop-again
     (λ c. done (c .before .loop .inv .0) (c .loop-test .left)))

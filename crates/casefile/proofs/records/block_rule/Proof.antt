@@ -6,15 +6,9 @@ use Rattle.casefile.proofs.records.block_rule.Tie as tie
 
 pub block-rule-spec : {M : Type 1} → statement M
 unfolding blockRule
-block-rule-spec =
-    tie.close
-    (tie.spec
-    (λ c κs. search needs)
-    (λ c. search needs)
-    (λ c κs. search needs)
-    (λ c κs. search needs)
-    (λ c κs. search needs)
-    (λ c κs. search needs)
+block-rule-spec = tie.close (tie.spec
+    (λ c κs. search needs) (λ c. search needs) (λ c κs. search needs) (λ c κs. search needs)
+    (λ c κs. search needs) (λ c κs. search needs)
     (λ c.
     let p = c .before in
     let k = p .before in

@@ -1,10 +1,7 @@
 -- `casefile::records::first_bad_block` meets its contract: the loop passes records at which the test holds, and stops
 -- at the first other.
-use mathlib.Core.Path.{_≡_, _∙_}
-use Prim.Native.Nat.{_-_}
+use Rattle.wire.proofs.Usual.{_≡_, _∙_, _-_, needs, now}
 use Rattle.wire.proofs.Places.{Passed, begin, more, hit, done}
-use borrow.Author.Needs.{needs}
-use denote.Ref.{now}
 use Rattle.project.specs.Project.{blockCount}
 use Rattle.casefile.specs.Rules.{blockRule, blockRecordOk}
 use Rattle.casefile.proofs.records.first_bad_block.Statement.{statement}
@@ -31,19 +28,12 @@ test c =
 
 pub first-bad-block-spec : {M : Type 1} → statement M
 unfolding blockCount
-first-bad-block-spec =
-    tie.close
-    (tie.spec
-    Inv-loop
-    μ-loop
-    (λ c κs. search needs)
-    (λ c κs. search needs)
+first-bad-block-spec = tie.close (tie.spec
+    Inv-loop μ-loop (λ c κs. search needs) (λ c κs. search needs)
     (λ c. begin _ _)
-    (λ c κs. search needs)
-    (λ c κs. search needs)
+    (λ c κs. search needs) (λ c κs. search needs)
     (λ c. hit (c .before .before .before .before .loop .inv) (test (c .before)) (c .if1 .taken))
-    (λ c. search needs)
-    (λ c. search needs)
+    (λ c. search needs) (λ c. search needs)
     (λ c. more (c .before .before .before .before .loop .inv) (c .before .before .before .loop-test .taken)
     (test (c .before)) (c .if1 .left))
     (λ c. done (c .before .loop .inv) (c .loop-test .left)))

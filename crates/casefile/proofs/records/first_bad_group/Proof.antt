@@ -1,11 +1,7 @@
 -- `casefile::records::first_bad_group` meets its contract: the loop passes records at which the test holds, and stops
 -- at the first other.
-use mathlib.Core.Path.{_≡_, _∙_}
-use native.Mathlib.Omega.{arith}
-use Prim.Native.Nat.{_-_}
+use Rattle.wire.proofs.Usual.{_≡_, _∙_, arith, _-_, needs, now}
 use Rattle.wire.proofs.Places.{Passed, begin, more, hit, done}
-use borrow.Author.Needs.{needs}
-use denote.Ref.{now}
 use Rattle.project.specs.Project.{groupCount}
 use Rattle.kind.specs.Devices.{groupRule}
 use Rattle.casefile.specs.Rules.{groupRecordOk}
@@ -30,19 +26,12 @@ test c =
     c .group-rule .ensures ∙ (λ i. groupRule (d i) (c .before .run-linked .ensures i))
 
 pub first-bad-group-spec : {M : Type 1} → statement M
-first-bad-group-spec =
-    tie.close
-    (tie.spec
-    Inv-loop
-    μ-loop
-    (λ c κs. search needs)
-    (λ c κs. search needs)
+first-bad-group-spec = tie.close (tie.spec
+    Inv-loop μ-loop (λ c κs. search needs) (λ c κs. search needs)
     (λ c. begin _ _)
-    (λ c κs. search needs)
-    (λ c κs. search needs)
+    (λ c κs. search needs) (λ c κs. search needs)
     (λ c. hit (c .before .before .before .before .loop .inv) (test (c .before)) (c .if1 .taken))
-    (λ c. search needs)
-    (λ c. search needs)
+    (λ c. search needs) (λ c. search needs)
     (λ c.
     let l = c .before .before .before in
     more (l .before .loop .inv) (omega (arith, l .before .before .group-count .ensures)) (test (c .before))

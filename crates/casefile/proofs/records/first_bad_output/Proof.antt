@@ -1,10 +1,7 @@
 -- `casefile::records::first_bad_output` meets its contract: the loop passes records at which the test holds, and
 -- stops at the first other.
-use mathlib.Core.Path.{_≡_, ap, _∙_}
-use Prim.Native.Nat.{_-_}
+use Rattle.wire.proofs.Usual.{_≡_, ap, _∙_, _-_, needs, now}
 use Rattle.wire.proofs.Places.{Passed, begin, more, hit, done}
-use borrow.Author.Needs.{needs}
-use denote.Ref.{now}
 use Rattle.project.specs.Project.{blockCount, blockRecord, outputCount, outputBlockIn}
 use Rattle.casefile.specs.Rules.{outputRule, outputRecordOk}
 use Rattle.casefile.proofs.records.first_bad_output.Statement.{statement}
@@ -34,21 +31,13 @@ test c =
 
 pub first-bad-output-spec : {M : Type 1} → statement M
 unfolding blockCount outputCount
-first-bad-output-spec =
-    tie.close
-    (tie.spec
-    Inv-loop
-    μ-loop
-    (λ c κs. search needs)
+first-bad-output-spec = tie.close (tie.spec
+    Inv-loop μ-loop (λ c κs. search needs)
     (λ c. begin _ _)
-    (λ c κs. search needs)
-    (λ c κs. search needs)
-    (λ c. search needs)
-    (λ c κs. search needs)
+    (λ c κs. search needs) (λ c κs. search needs) (λ c. search needs) (λ c κs. search needs)
     (λ c κs. search needs)
     (λ c. hit (c .before .before .before .before .before .before .loop .inv) (test (c .before)) (c .if1 .taken))
-    (λ c. search needs)
-    (λ c. search needs)
+    (λ c. search needs) (λ c. search needs)
     (λ c. more (c .before .before .before .before .before .before .loop .inv)
     (c .before .before .before .before .before .loop-test .taken) (test (c .before)) (c .if1 .left))
     (λ c. done (c .before .loop .inv) (c .loop-test .left)))

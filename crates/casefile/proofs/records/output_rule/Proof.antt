@@ -1,24 +1,14 @@
 -- `casefile::records::output_rule` meets its contract: one test after the other.
-use mathlib.Core.Path.{refl}
-use borrow.Author.Needs.{needs}
+use Rattle.wire.proofs.Usual.{refl, needs}
 use Rattle.casefile.specs.Rules.{outputRule}
 use Rattle.casefile.proofs.records.output_rule.Statement.{statement}
 use Rattle.casefile.proofs.records.output_rule.Tie as tie
 
 pub output-rule-spec : {M : Type 1} → statement M
 unfolding outputRule
-output-rule-spec =
-    tie.close
-    (tie.spec
-    (λ c κs. search needs)
-    (λ c. search needs)
-    (λ c κs. search needs)
-    (λ c. search needs)
-    (λ c κs. search needs)
-    (λ c κs. search needs)
-    (λ c κs. search needs)
-    (λ c κs. search needs)
-    (λ c κs. search needs)
+output-rule-spec = tie.close (tie.spec
+    (λ c κs. search needs) (λ c. search needs) (λ c κs. search needs) (λ c. search needs) (λ c κs. search needs)
+    (λ c κs. search needs) (λ c κs. search needs) (λ c κs. search needs) (λ c κs. search needs)
     (λ c.
     let h = c .before in
     let p = h .before in

@@ -1,9 +1,5 @@
 -- `casefile::table::keeps` meets its contract: each arm calls the test of its rule.
-use Prim.Native.Nat.{_<_}
-use native.Mathlib.Omega.{arith}
-use lib.Dec.{eqb}
-use borrow.Author.Needs.{needs}
-use denote.Ref.{now}
+use Rattle.wire.proofs.Usual.{_<_, arith, eqb, needs, now}
 use Rattle.wire.specs.Places.{all}
 use Rattle.wire.proofs.Places.{all-is}
 use Rattle.project.specs.Project.{inputCount, blockCount, outputCount}
@@ -14,37 +10,16 @@ use Rattle.casefile.proofs.table.keeps.Tie as tie
 
 pub keeps-spec : {M : Type 1} → statement M
 unfolding all inputCount blockCount outputCount
-keeps-spec =
-    tie.close
-    (tie.spec
-    (λ c. search needs)
-    (λ c κs. search needs)
-    (λ c. search needs)
-    (λ c κs. search needs)
-    (λ c. search needs)
-    (λ c κs. search needs)
-    (λ c. search needs)
-    (λ c κs. search needs)
-    (λ c κs. search needs)
-    (λ c. search needs)
-    (λ c κs. search needs)
-    (λ c. search needs)
-    (λ c κs. search needs)
-    (λ c. search needs)
-    (λ c κs. search needs)
-    (λ c. search needs)
-    (λ c κs. search needs)
-    (λ c. search needs)
+keeps-spec = tie.close (tie.spec
+    (λ c. search needs) (λ c κs. search needs) (λ c. search needs) (λ c κs. search needs) (λ c. search needs)
+    (λ c κs. search needs) (λ c. search needs) (λ c κs. search needs) (λ c κs. search needs) (λ c. search needs)
+    (λ c κs. search needs) (λ c. search needs) (λ c κs. search needs) (λ c. search needs) (λ c κs. search needs)
+    (λ c. search needs) (λ c κs. search needs) (λ c. search needs)
     (λ c κs.
     let a = c .before .before .before .before .before .before .before .before in
     blocks-whole (now (a .args .b)) (a .pre .blocks (rw (c .enum-told9 .given .1) (omega arith))) .few)
-    (λ c. search needs)
-    (λ c κs. search needs)
-    (λ c. search needs)
-    (λ c κs. search needs)
-    (λ c. search needs)
-    (λ c κs. search needs)
-    (λ c. search needs)
+    (λ c. search needs) (λ c κs. search needs) (λ c. search needs) (λ c κs. search needs) (λ c. search needs)
+    (λ c κs. search needs) (λ c. search needs)
     (λ c κs.
     let a = c .before .before .before .before .before .before .before .before in
     blocks-whole (now (a .args .b)) (a .pre .blocks (rw (c .enum-told13 .given .1) (omega arith))) .few)

@@ -1,6 +1,5 @@
 -- `casefile::table::rule_at` meets its contract: the array is the list of the definition.
-use mathlib.Core.Path.{refl}
-use borrow.Author.Needs.{needs}
+use Rattle.wire.proofs.Usual.{refl, needs}
 use Rattle.casefile.specs.Refusal.{ruleAt}
 use Rattle.casefile.proofs.table.rule_at.Statement.{statement}
 use Rattle.casefile.proofs.table.rule_at.Tie as tie

@@ -1,7 +1,6 @@
 -- `evaluator::advance::advance` meets its contract: the parts' contracts come to the definitions of a cycle
 -- (`Checked`).
-use borrow.Author.Needs.{needs}
-use borrow.Author.Tests.{not-true}
+use Rattle.wire.proofs.Usual.{needs, not-true}
 use Rattle.evaluator.proofs.Checked.{packable, all-count, all-findings, few-heads, heads-fit, no-count}
 use Rattle.evaluator.proofs.Checked.{no-findings, ran-state, running}
 use Rattle.evaluator.proofs.advance.advance.Statement.{statement}
@@ -62,9 +61,7 @@ returns-2 c =
     )
 
 pub advance-spec : {M : Type 1} → statement M
-advance-spec =
-    tie.close
-    (tie.spec
+advance-spec = tie.close (tie.spec
     (λ c κs. search needs)
     (λ c κs.
     let s = c .before .before .before .before .before .before .before .before .before .before .before .before in
@@ -72,12 +69,5 @@ advance-spec =
       few-heads (s .pre),
       heads-fit (s .pre),
     ))
-    (λ c. search needs)
-    run-requires
-    (λ c. search needs)
-    (λ c. search needs)
-    returns
-    pack-requires
-    (λ c. search needs)
-    (λ c. search needs)
-    returns-2)
+    (λ c. search needs) run-requires (λ c. search needs) (λ c. search needs) returns pack-requires
+    (λ c. search needs) (λ c. search needs) returns-2)

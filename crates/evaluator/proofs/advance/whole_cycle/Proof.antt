@@ -1,9 +1,6 @@
 -- `evaluator::advance::whole_cycle` meets its contract: the state and the findings are `advance`'s, and the outputs
 -- show the new state (`Checked`).
-use mathlib.Core.Path.{ap, _∙_}
-use borrow.Author.Needs.{needs}
-use lib.ListN.{length}
-use denote.Ref.{now}
+use Rattle.wire.proofs.Usual.{ap, _∙_, needs, length, now}
 use Rattle.evaluator.proofs.Checked.{ready, in-groups, in-order, in-place, new-long, outputs-fit, outputs-long}
 use Rattle.evaluator.proofs.Checked.{shown-new}
 use Rattle.evaluator.proofs.advance.whole_cycle.Statement.{statement}
@@ -31,9 +28,7 @@ returns c =
     (e .0, (shown-new (s .pre) _ _ (e .0) (w .write-outputs .ensures), (e .1 .0, e .1 .1)))
 
 pub whole-cycle-spec : {M : Type 1} → statement M
-whole-cycle-spec =
-    tie.close
-    (tie.spec
+whole-cycle-spec = tie.close (tie.spec
     (λ c κs.
     let s = c .before .before .before .before .before .before .before in
     let a = s .args in
@@ -44,9 +39,7 @@ whole-cycle-spec =
       in-place (s .pre) (now (a .state)) (s .pre .state),
       in-groups (s .pre),
     ))
-    (λ c. search needs)
-    (λ c. search needs)
-    advance-requires
+    (λ c. search needs) (λ c. search needs) advance-requires
     (λ c κs.
     let v = c .before .before .before .before .before .before in
     let k = v .before .before .before .before .before .before .before in
@@ -60,7 +53,4 @@ whole-cycle-spec =
         outputs-long (s .pre),
       ),
     ))
-    (λ c. search needs)
-    (λ c. search needs)
-    (λ c. search needs)
-    returns)
+    (λ c. search needs) (λ c. search needs) (λ c. search needs) returns)

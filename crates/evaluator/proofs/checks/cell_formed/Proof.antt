@@ -1,8 +1,5 @@
 -- `evaluator::checks::cell_formed` meets its contract: the block's record and bytes are those of the definition.
-use Prim.Native.Nat.{_≤_, _<_}
-use native.Mathlib.Omega.{arith}
-use borrow.Author.Needs.{needs}
-use denote.Ref.{now}
+use Rattle.wire.proofs.Usual.{_≤_, _<_, arith, needs, now}
 use Rattle.evaluator.proofs.Checking.{block-is}
 use Rattle.evaluator.proofs.checks.cell_formed.Statement.{statement}
 use Rattle.evaluator.proofs.checks.cell_formed.Tie as tie
@@ -21,16 +18,10 @@ small : (s : tie.Start) → (s .args .b < 64) × (s .args .h ≤ 8)
 small s = (omega (arith, s .pre .0 .few, s .pre .1), s .pre .0 .fewGroups)
 
 pub cell-formed-spec : {M : Type 1} → statement M
-cell-formed-spec =
-    tie.close
-    (tie.spec
+cell-formed-spec = tie.close (tie.spec
     (λ c. omega (arith, small (c .before .before)))
     (λ c κs. let s = c .before .before in omega (arith, s .pre .0 .long, s .pre .1))
     (λ c. omega (arith, small (c .before .before .before)))
     (λ c. omega (arith, small (c .before .before .before)))
     (λ c. omega (arith, small (c .before .before .before)))
-    (λ c κs. search needs)
-    (λ c κs. search needs)
-    (λ c κs. search needs)
-    (λ c κs. search needs)
-    returns)
+    (λ c κs. search needs) (λ c κs. search needs) (λ c κs. search needs) (λ c κs. search needs) returns)

@@ -1,12 +1,9 @@
 -- `evaluator::checks::first_bad_block` meets its contract: the loop passes blocks whose bytes are well formed, and
 -- stops at the first other.
-use Prim.Native.Nat.{_-_}
-use native.Mathlib.Omega.{arith}
-use borrow.Author.Needs.{needs}
+use Rattle.wire.proofs.Usual.{_-_, arith, needs, refl}
 use Rattle.wire.proofs.Places.{Passed, begin, more, hit, done}
 use Rattle.project.specs.Project.{blockCount}
 use Rattle.evaluator.specs.State.{cellFormed}
-use mathlib.Core.Path.{refl}
 use Rattle.evaluator.proofs.checks.first_bad_block.Statement.{statement}
 use Rattle.evaluator.proofs.checks.first_bad_block.Tie as tie
 
@@ -17,11 +14,8 @@ abbrev μ-loop : tie.MeasureT-loop
 μ-loop blocks state h n b₀ b = n - b
 
 pub first-bad-block-spec : {M : Type 1} → statement M
-first-bad-block-spec =
-    tie.close
-    (tie.spec
-    Inv-loop
-    μ-loop
+first-bad-block-spec = tie.close (tie.spec
+    Inv-loop μ-loop
     (λ c. begin _ _)
     (λ c κs.
     let s = c .before .before .before .before in (
@@ -30,8 +24,7 @@ first-bad-block-spec =
           (arith, c .loop-test .taken, s .pre .count),
     ))
     (λ c. hit (c .before .before .before .loop .inv) (c .before .cell-formed .ensures) (c .if1 .taken))
-    (λ c. search needs)
-    (λ c. search needs)
+    (λ c. search needs) (λ c. search needs)
     (λ c.
     let l = c .before .before .before in
     let s = l .before .before .before in

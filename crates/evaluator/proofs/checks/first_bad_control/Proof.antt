@@ -1,10 +1,6 @@
 -- `evaluator::checks::first_bad_control` meets its contract: the loop passes groups whose byte is right, and stops at
 -- the first other.
-use mathlib.Core.Path.{_≡_, _∙_}
-use Prim.Native.Nat.{_-_}
-use native.Mathlib.Omega.{arith}
-use borrow.Author.Needs.{needs}
-use denote.Ref.{now}
+use Rattle.wire.proofs.Usual.{_≡_, _∙_, _-_, arith, needs, now}
 use Rattle.wire.proofs.Places.{Passed, begin, more, hit, done}
 use Rattle.kind.specs.Devices.{controlRule}
 use Rattle.project.specs.Project.{groupCount, device}
@@ -33,19 +29,14 @@ tested c =
     (c .before .byte .ensures i))
 
 pub first-bad-control-spec : {M : Type 1} → statement M
-first-bad-control-spec =
-    tie.close
-    (tie.spec
-    Inv-loop
-    μ-loop
+first-bad-control-spec = tie.close (tie.spec
+    Inv-loop μ-loop
     (λ c. begin _ _)
     (λ c κs. search needs)
     (λ c. let s = start-of (c .before .before) in omega (arith, s .pre .1, s .pre .0 .1))
-    (λ c κs. search needs)
-    (λ c κs. search needs)
+    (λ c κs. search needs) (λ c κs. search needs)
     (λ c. let d = c .before in hit (d .before .before .before .before .loop .inv) (tested d) (c .if1 .taken))
-    (λ c. search needs)
-    (λ c. search needs)
+    (λ c. search needs) (λ c. search needs)
     (λ c.
     let d = c .before in
     let l = d .before .before .before .before in

@@ -1,11 +1,6 @@
 -- `evaluator::checks::first_bad_input` meets its contract: the loop passes inputs whose word is of their type, and
 -- stops at the first other. The records stand in I, and the words in the record.
-use mathlib.Core.Path.{_≡_}
-use Prim.Native.Nat.{_+_, _-_, _*_, _≤_, _<_}
-use native.Mathlib.Omega.{arith}
-use borrow.Author.Needs.{needs}
-use lib.ListN.{length}
-use denote.Ref.{now}
+use Rattle.wire.proofs.Usual.{_≡_, _+_, _-_, _*_, _≤_, _<_, arith, needs, length, now}
 use Rattle.wire.proofs.Places.{Passed, begin, more, hit, done}
 use Rattle.project.specs.Project.{inputCount, headSize, inputSize, wordSize}
 use Rattle.evaluator.specs.Answer.{inputFits}
@@ -60,11 +55,8 @@ tested c =
     (w .read32 .ensures) (c .word-ok .ensures)
 
 pub first-bad-input-spec : {M : Type 1} → statement M
-first-bad-input-spec =
-    tie.close
-    (tie.spec
-    Inv-loop
-    μ-loop
+first-bad-input-spec = tie.close (tie.spec
+    Inv-loop μ-loop
     (λ c. begin _ _)
     (λ c. omega (arith, within c))
     (λ c κs. within c .0)
@@ -72,12 +64,9 @@ first-bad-input-spec =
     (λ c. omega (arith, within (c .before)))
     (λ c. omega (arith, within (c .before)))
     (λ c κs. within (c .before) .1)
-    (λ c κs. search needs)
-    (λ c κs. search needs)
-    (λ c κs. search needs)
+    (λ c κs. search needs) (λ c κs. search needs) (λ c κs. search needs)
     (λ c. let d = c .before in hit (turn-of d .before .loop .inv) (tested d) (c .if1 .taken))
-    (λ c. search needs)
-    (λ c. search needs)
+    (λ c. search needs) (λ c. search needs)
     (λ c. let d = c .before in let t = turn-of d in more (t .before .loop .inv) (inside t) (tested d) (c .if1 .left))
     (λ c.
     let s = start-of (c .before) in

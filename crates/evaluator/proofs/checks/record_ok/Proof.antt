@@ -1,14 +1,8 @@
 -- `evaluator::checks::record_ok` meets its contract: the length, the time, and then no group and no input is the first
 -- that is wrong.
-use mathlib.Core.Path.{_≡_, sym, ap, _∙_}
-use Prim.Native.Nat.{ℕ, _+_, _*_, _≤_}
-use native.Mathlib.Omega.{arith}
-use mathlib.Core.Bool.{_&&_}
-use borrow.Author.Needs.{needs}
-use borrow.Author.Tests.{eq-eqb, ne-eqb}
-use lib.Dec.{eqb, leb}
-use lib.ListN.{length}
-use denote.Ref.{now}
+use Rattle.wire.proofs.Usual.{_≡_, sym, ap, _∙_, ℕ, _+_, _*_, _≤_, arith, _&&_, needs, eq-eqb, ne-eqb, eqb}
+use Rattle.wire.proofs.Usual.{length, now}
+use lib.Dec.{leb}
 use Rattle.wire.specs.Places.{firstBad, all}
 use Rattle.project.specs.Project.{recordSize, inputCount, device, headSize, inputSize, wordSize}
 use Rattle.evaluator.specs.Answer.{inputFits, recordOk}
@@ -52,11 +46,8 @@ returns-2 c =
     (s .pre .inputs i))
 
 pub record-ok-spec : {M : Type 1} → statement M
-record-ok-spec =
-    tie.close
-    (tie.spec
-    returns
-    (λ c κs. search needs)
+record-ok-spec = tie.close (tie.spec
+    returns (λ c κs. search needs)
     (λ c κs.
     let s = c .before .before .before .before .before in
     ((s .pre .device, s .pre .groups), s .pre .fewGroups))

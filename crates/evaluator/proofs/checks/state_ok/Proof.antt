@@ -1,7 +1,5 @@
 -- `evaluator::checks::state_ok` meets its contract: no group and no block is the first that is not well formed.
-use mathlib.Core.Bool.{_&&_}
-use borrow.Author.Needs.{needs}
-use lib.Dec.{eqb}
+use Rattle.wire.proofs.Usual.{_&&_, needs, eqb}
 use Rattle.wire.specs.Places.{all}
 use Rattle.evaluator.proofs.checks.state_ok.Statement.{statement}
 use Rattle.evaluator.proofs.checks.state_ok.Tie as tie

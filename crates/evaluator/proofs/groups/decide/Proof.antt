@@ -1,10 +1,6 @@
 -- `evaluator::groups::decide` meets its contract: after the turn of group g the bytes and phases of the groups below g
 -- + 1 are decided (`Deciding`).
-use mathlib.Core.Path.{_≡_, ap₂, _∙_, subst}
-use Prim.Native.Nat.{_-_, _<_}
-use native.Mathlib.Omega.{arith}
-use borrow.Author.Needs.{needs}
-use denote.Ref.{now}
+use Rattle.wire.proofs.Usual.{_≡_, ap₂, _∙_, subst, _-_, _<_, arith, needs, now}
 use Rattle.project.specs.Project.{device}
 use Rattle.evaluator.specs.Groups.{runsWith, phaseFrom, phaseOf, pends}
 use Rattle.evaluator.specs.Asks.{groupWith}
@@ -98,28 +94,18 @@ small : (c : tie.After-phase-from Inv-loop μ-loop) → loop-of c .loop .g < 8
 small c = omega (arith, turning c, start-of (loop-of c) .pre .0)
 
 pub decide-spec : {M : Type 1} → statement M
-decide-spec =
-    tie.close
-    (tie.spec
-    Inv-loop
-    μ-loop
-    (λ c κs. search needs)
+decide-spec = tie.close (tie.spec
+    Inv-loop μ-loop (λ c κs. search needs)
     (λ c. deciding-start _ _ _ _ _)
     (λ c. let s = start-of (c .before) in omega (arith, c .loop-test .taken, s .pre .0))
-    (λ c κs. search needs)
-    (λ c κs. search needs)
-    (λ c κs. search needs)
-    (λ c κs. search needs)
+    (λ c κs. search needs) (λ c κs. search needs) (λ c κs. search needs) (λ c κs. search needs)
     (λ c.
     let t = c .before .before .before .before in
     omega (arith, t .loop-test .taken, start-of (t .before) .pre .0))
     (λ c.
     let t = c .before .before .before .before .before in
     omega (arith, t .before .loop .inv .long, start-of (t .before) .pre .1, t .loop-test .taken))
-    (λ c κs. search needs)
-    (λ c κs. search needs)
-    (λ c κs. search needs)
-    (λ c κs. search needs)
+    (λ c κs. search needs) (λ c κs. search needs) (λ c κs. search needs) (λ c κs. search needs)
     (λ c. small c)
     (λ c. omega (arith, small c))
     (λ c. let l = loop-of c in omega (arith, l .loop .inv .long, start-of l .pre .1, turning c))

@@ -1,13 +1,7 @@
 -- `evaluator::groups::error_groups` meets its contract: after the block b the marks are those of the first b + 1
 -- blocks.
-use mathlib.Core.Path.{_≡_, sym, ap, _∙_, subst}
+use Rattle.wire.proofs.Usual.{_≡_, sym, ap, _∙_, subst, List, ℕ, _+_, _-_, _≤_, _<_, arith, needs, set, now}
 use mathlib.Core.Logic.{⊎-elim}
-use mathlib.Core.List.{List}
-use Prim.Native.Nat.{ℕ, _+_, _-_, _≤_, _<_}
-use native.Mathlib.Omega.{arith}
-use borrow.Author.Needs.{needs}
-use lib.ListN.{set}
-use denote.Ref.{now}
 use Rattle.project.specs.Project.{groupIn, groupOf, blockCount}
 use Rattle.block.specs.State.{isError}
 use Rattle.evaluator.specs.State.{cell}
@@ -76,11 +70,8 @@ loop-again c =
     )
 
 pub error-groups-spec : {M : Type 1} → statement M
-error-groups-spec =
-    tie.close
-    (tie.spec
-    Inv-loop
-    μ-loop
+error-groups-spec = tie.close (tie.spec
+    Inv-loop μ-loop
     (λ c. (search needs, marked-start _ _ _))
     (λ c. omega (arith, small c))
     (λ c. omega (arith, small c))
@@ -92,15 +83,12 @@ error-groups-spec =
     let t = c .before .before .before in
     let s = start-of (t .before) in
     record-there (s .pre .0) _ (inside t))
-    (λ c κs. search needs)
-    (λ c. search needs)
+    (λ c κs. search needs) (λ c. search needs)
     (λ c.
     let t = c .before .before .before .before .before in
     let s = start-of (t .before) in
     rw (group-is c) (s .pre .1 .groups (t .before .loop .b) (t .loop-test .taken)))
-    (λ c. search needs)
-    (λ c. search needs)
-    loop-again
+    (λ c. search needs) (λ c. search needs) loop-again
     (λ c.
     let l = c .before in
     let s = start-of l in

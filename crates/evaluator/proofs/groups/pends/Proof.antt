@@ -1,7 +1,5 @@
 -- `evaluator::groups::pends` meets its contract.
-use mathlib.Core.Path.{ap}
-use mathlib.Core.Bool.{Bool, _||_}
-use borrow.Author.Needs.{needs}
+use Rattle.wire.proofs.Usual.{ap, Bool, _||_, needs}
 use Rattle.evaluator.proofs.groups.pends.Statement.{statement}
 use Rattle.evaluator.proofs.groups.pends.Tie as tie
 

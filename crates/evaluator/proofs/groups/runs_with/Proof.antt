@@ -1,8 +1,5 @@
 -- `evaluator::groups::runs_with` meets its contract.
-use mathlib.Core.Path.{ap}
-use mathlib.Core.Bool.{Bool, _||_}
-use borrow.Author.Needs.{needs}
-use lib.Dec.{eqb}
+use Rattle.wire.proofs.Usual.{ap, Bool, _||_, needs, eqb}
 use Rattle.evaluator.proofs.groups.runs_with.Statement.{statement}
 use Rattle.evaluator.proofs.groups.runs_with.Tie as tie
 

@@ -1,12 +1,5 @@
 -- `evaluator::outputs::write_outputs` meets its contract: after the turn of output o the first o + 1 words are written.
-use mathlib.Core.Path.{_≡_, refl, ap, _∙_}
-use mathlib.Core.List.{List}
-use Prim.Native.Nat.{ℕ, _-_, _*_, _≤_}
-use native.Mathlib.Omega.{arith}
-use borrow.Author.Needs.{needs}
-use lib.ListN.{length}
-use lib.Seq.{sets}
-use denote.Ref.{now}
+use Rattle.wire.proofs.Usual.{_≡_, refl, ap, _∙_, List, ℕ, _-_, _*_, _≤_, arith, needs, length, sets, now}
 use Rattle.wire.specs.Words.{bytes4}
 use Rattle.wire.proofs.Records.{gathered, gathered-none, gathered-length, gathered-more, gathered-all}
 use Rattle.project.specs.Project.{outputBlockIn, outputPortIn, rowOf, outputRecord, outputBlock, wordSize}
@@ -85,17 +78,13 @@ loop-again c =
     )
 
 pub write-outputs-spec : {M : Type 1} → statement M
-write-outputs-spec =
-    tie.close
-    (tie.spec
-    Inv-loop
-    μ-loop
+write-outputs-spec = tie.close (tie.spec
+    Inv-loop μ-loop
     (λ c. (search needs, gathered-none wordSize _ _))
     (λ c. omega (arith, c .loop-test .taken, small (start-of (c .before))))
     (λ c κs. let s = start-of (c .before) in omega
     (arith, c .loop-test .taken, s .pre .1 .0 .shown .long, s .pre .1 .0 .count))
-    (λ c κs. search needs)
-    (λ c κs. search needs)
+    (λ c κs. search needs) (λ c κs. search needs)
     (λ c κs.
     let r = c .before .before in
     let l = r .before .before in
@@ -110,10 +99,7 @@ write-outputs-spec =
       small
           (start-of (c .before .before .before .before .before .before)),
     ))
-    (λ c κs. search needs)
-    (λ c. search needs)
-    (λ c. search needs)
-    loop-again
+    (λ c κs. search needs) (λ c. search needs) (λ c. search needs) loop-again
     (λ c. long (c .before))
     (λ c.
     let l = c .before in

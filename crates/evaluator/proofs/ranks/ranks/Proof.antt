@@ -1,9 +1,5 @@
 -- `evaluator::ranks::ranks` meets its contract (`Ranking`).
-use mathlib.Core.Path.{_≡_, refl, ap, _∙_, subst}
-use Prim.Native.Nat.{_-_, _<_}
-use native.Mathlib.Omega.{arith}
-use borrow.Author.Needs.{needs}
-use denote.Ref.{now}
+use Rattle.wire.proofs.Usual.{_≡_, refl, ap, _∙_, subst, _-_, _<_, arith, needs, now}
 use Rattle.project.specs.Project.{orderIn, orderOf}
 use Rattle.evaluator.proofs.Reading.{record-is}
 use Rattle.evaluator.proofs.Ranking.{Ranking, ranking-start, ranking-turn, ranking-end}
@@ -32,20 +28,14 @@ small c =
     omega (arith, order-is c, s .pre .below (l .loop .b) (c .before .before .loop-test .taken), s .pre .few)
 
 pub ranks-spec : {M : Type 1} → statement M
-ranks-spec =
-    tie.close
-    (tie.spec
-    Inv-loop
-    μ-loop
+ranks-spec = tie.close (tie.spec
+    Inv-loop μ-loop
     (λ c. ranking-start _ _)
     (λ c. omega (arith, c .loop-test .taken, c .before .before .before .pre .few))
     (λ c κs. omega (arith, c .loop-test .taken, c .before .before .before .pre .long))
-    (λ c κs. search needs)
-    (λ c. search needs)
-    (λ c. search needs)
+    (λ c κs. search needs) (λ c. search needs) (λ c. search needs)
     (λ c. small c)
-    (λ c. search needs)
-    (λ c. search needs)
+    (λ c. search needs) (λ c. search needs)
     (λ c.
     let l = c .before .before .before in
     let s = l .before .before in

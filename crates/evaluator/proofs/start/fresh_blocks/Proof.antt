@@ -1,12 +1,5 @@
 -- `evaluator::start::fresh_blocks` meets its contract: after b turns the first b blocks have their fresh bytes.
-use mathlib.Core.Path.{_≡_, ap, _∙_}
-use mathlib.Core.List.{List}
-use Prim.Native.Nat.{ℕ, _-_, _*_, _≤_}
-use native.Mathlib.Omega.{arith}
-use borrow.Author.Needs.{needs}
-use lib.ListN.{length}
-use lib.Seq.{sets}
-use denote.Ref.{now}
+use Rattle.wire.proofs.Usual.{_≡_, ap, _∙_, List, ℕ, _-_, _*_, _≤_, arith, needs, length, sets, now}
 use Rattle.wire.proofs.Records.{gathered, gathered-none, gathered-length, gathered-more, gathered-all}
 use Rattle.block.specs.State.{freshBytes, stateSize}
 use Rattle.evaluator.proofs.FreshFormed.{fresh-long}
@@ -56,18 +49,11 @@ returns c =
     ∙ gathered-all stateSize (s .args .n) bytes (now (s .args .cells)) (s .pre)
 
 pub fresh-blocks-spec : {M : Type 1} → statement M
-fresh-blocks-spec =
-    tie.close
-    (tie.spec
-    Inv-loop
-    μ-loop
+fresh-blocks-spec = tie.close (tie.spec
+    Inv-loop μ-loop
     (λ c. (search needs, gathered-none stateSize bytes _))
     (λ c κs. search needs)
     (λ c. let l = c .before .before .before in omega (arith, kept l, l .before .before .pre))
-    (λ c. search needs)
-    (λ c κs. search needs)
-    (λ c. search needs)
-    (λ c. search needs)
-    loop-again
+    (λ c. search needs) (λ c κs. search needs) (λ c. search needs) (λ c. search needs) loop-again
     (λ c. kept (c .before))
     returns)

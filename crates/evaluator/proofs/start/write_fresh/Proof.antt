@@ -1,11 +1,8 @@
 -- `evaluator::start::write_fresh` meets its contract: zeros, and the blocks' fresh bytes behind them.
-use mathlib.Core.Path.{_≡_, sym, ap, _∙_}
-use mathlib.Core.List.{List, [], _++_, append-nil}
-use Prim.Native.Nat.{ℕ, _+_, _-_, _*_}
-use native.Mathlib.Omega.{arith}
-use borrow.Author.Needs.{needs}
+use Rattle.wire.proofs.Usual.{_≡_, sym, ap, _∙_, List, [], _++_, append-nil, ℕ, _+_, _-_, _*_, arith, needs}
+use Rattle.wire.proofs.Usual.{length, take, replicate, length-replicate}
 use borrow.Rule.Slice.PartMut.{postOf, putMid, post-is}
-use lib.ListN.{length, take, replicate, length-replicate, replicate-append-replicate}
+use lib.ListN.{replicate-append-replicate}
 use lib.Seq.{take-at, drop-length}
 use Rattle.wire.specs.Records.{gather}
 use Rattle.block.specs.State.{stateSize, freshBytes}
@@ -37,13 +34,6 @@ returns c =
     shape (s .args .head) (s .args .n) _ _ _ (k .clear .ensures) (s .pre) (f .fresh-blocks .ensures)
 
 pub write-fresh-spec : {M : Type 1} → statement M
-write-fresh-spec =
-    tie.close
-    (tie.spec
-    (λ c κs. search needs)
-    (λ c. search needs)
-    (λ c. search needs)
-    (λ c. search needs)
-    (λ c κs. search needs)
-    (λ c. search needs)
-    returns)
+write-fresh-spec = tie.close (tie.spec
+    (λ c κs. search needs) (λ c. search needs) (λ c. search needs) (λ c. search needs) (λ c κs. search needs)
+    (λ c. search needs) returns)

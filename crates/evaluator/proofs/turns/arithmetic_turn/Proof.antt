@@ -1,10 +1,6 @@
 -- `evaluator::turns::arithmetic_turn` meets its contract: the two words are read, the block's bytes become its step's,
 -- and a block that enters ERROR is noted.
-use mathlib.Core.Path.{_≡_, sym, ap, _∙_}
-use Prim.Native.Nat.{ℕ}
-use native.Mathlib.Omega.{arith}
-use borrow.Author.Needs.{needs}
-use denote.Ref.{now}
+use Rattle.wire.proofs.Usual.{_≡_, sym, ap, _∙_, ℕ, arith, needs, now}
 use Rattle.wire.proofs.Places.{ok, bad}
 use Rattle.project.specs.Project.{kindIn, groupIn, linkIn}
 use Rattle.block.specs.Step.{arithmeticBytes}
@@ -95,27 +91,16 @@ linked : (c : tie.After-port-word-arg) (p : ℕ) →
 linked c p = start-of c .pre .1 .0 .links p
 
 pub arithmetic-turn-spec : {M : Type 1} → statement M
-arithmetic-turn-spec =
-    tie.close
-    (tie.spec
+arithmetic-turn-spec = tie.close (tie.spec
     (λ c κs. search needs)
     (λ c κs. (start-of (c .before) .pre .0, rw (c .source-of .ensures) (linked (c .before) 0)))
     (λ c κs. search needs)
     (λ c κs.
     let b = c .before .before .before .before in
     (start-of b .pre .0, rw (c .source-of2 .ensures) (linked b 1)))
-    (λ c κs. search needs)
-    (λ c κs. search needs)
-    (λ c. search needs)
-    (λ c. search needs)
-    (λ c. search needs)
-    (λ c. search needs)
-    (λ c. search needs)
-    (λ c. search needs)
-    (λ c. search needs)
-    (λ c κs. search needs)
-    (λ c. search needs)
-    returns
+    (λ c κs. search needs) (λ c κs. search needs) (λ c. search needs) (λ c. search needs) (λ c. search needs)
+    (λ c. search needs) (λ c. search needs) (λ c. search needs) (λ c. search needs) (λ c κs. search needs)
+    (λ c. search needs) returns
     (λ c κs.
     let t = c .before .before .before .before .before in
     let k = t .before .before in
@@ -123,6 +108,4 @@ arithmetic-turn-spec =
     let p = s .pre .1 .1 .1 .0 in
     let long = left-long _ _ _ _ _ _ (made k) (p .1 .1) _ (t .arithmetic-step .ensures .0) in
     (p .0, (p .1 .0, omega (arith, p .1 .1, long))))
-    (λ c. search needs)
-    (λ c. search needs)
-    returns-2)
+    (λ c. search needs) (λ c. search needs) returns-2)

@@ -1,10 +1,6 @@
 -- `evaluator::turns::decouple_turn` meets its contract: the channels are gathered, and the block's bytes become its
 -- step's.
-use mathlib.Core.Path.{_≡_, sym, _∙_}
-use mathlib.Core.Bool.{false}
-use borrow.Author.Needs.{needs}
-use denote.Ref.{now}
-use lib.Dec.{eqb}
+use Rattle.wire.proofs.Usual.{_≡_, sym, _∙_, false, needs, now, eqb}
 use Rattle.block.specs.Step.{decoupleStep, decoupleBytes}
 use Rattle.block.specs.State.{entersFrom}
 use Rattle.block.proofs.Enters.{holds-enters}
@@ -42,17 +38,7 @@ returns c =
     )
 
 pub decouple-turn-spec : {M : Type 1} → statement M
-decouple-turn-spec =
-    tie.close
-    (tie.spec
-    (λ c κs. search needs)
-    (λ c. search needs)
-    (λ c. search needs)
-    (λ c. search needs)
-    (λ c. search needs)
-    (λ c. search needs)
-    (λ c. search needs)
-    (λ c. search needs)
-    (λ c κs. search needs)
-    (λ c. search needs)
+decouple-turn-spec = tie.close (tie.spec
+    (λ c κs. search needs) (λ c. search needs) (λ c. search needs) (λ c. search needs) (λ c. search needs)
+    (λ c. search needs) (λ c. search needs) (λ c. search needs) (λ c κs. search needs) (λ c. search needs)
     returns)

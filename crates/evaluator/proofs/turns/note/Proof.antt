@@ -1,11 +1,6 @@
 -- `evaluator::turns::note` meets its contract: the block's bytes are read where they stand.
-use mathlib.Core.Path.{_∙_}
-use Prim.Native.Nat.{_*_, _<_}
+use Rattle.wire.proofs.Usual.{_∙_, _*_, _<_, arith, needs, sets, now}
 use native.Mathlib.Nat.{mod-eq-of-lt}
-use native.Mathlib.Omega.{arith}
-use borrow.Author.Needs.{needs}
-use lib.Seq.{sets}
-use denote.Ref.{now}
 use Rattle.block.specs.Finding.{findingSize, findingOf}
 use Rattle.evaluator.specs.Cycle.{finding}
 use Rattle.evaluator.proofs.Reading.{cell-is}
@@ -30,19 +25,7 @@ returns c =
     i))
 
 pub note-spec : {M : Type 1} → statement M
-note-spec =
-    tie.close
-    (tie.spec
-    (λ c. search needs)
-    (λ c. search needs)
-    (λ c. search needs)
-    (λ c. search needs)
-    (λ c κs. search needs)
-    (λ c κs. search needs)
-    (λ c κs. search needs)
-    (λ c κs. search needs)
-    (λ c. search needs)
-    (λ c. search needs)
-    (λ c κs. search needs)
-    (λ c. search needs)
-    returns)
+note-spec = tie.close (tie.spec
+    (λ c. search needs) (λ c. search needs) (λ c. search needs) (λ c. search needs) (λ c κs. search needs)
+    (λ c κs. search needs) (λ c κs. search needs) (λ c κs. search needs) (λ c. search needs) (λ c. search needs)
+    (λ c κs. search needs) (λ c. search needs) returns)

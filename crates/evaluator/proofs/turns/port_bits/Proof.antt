@@ -1,10 +1,6 @@
 -- `evaluator::turns::port_bits` meets its contract: after the turn of port p the bits of the ports from p on are
 -- gathered.
-use mathlib.Core.Path.{ap, _∙_}
-use Prim.Native.Nat.{_-_}
-use native.Mathlib.Omega.{arith}
-use borrow.Author.Needs.{needs}
-use denote.Ref.{now}
+use Rattle.wire.proofs.Usual.{ap, _∙_, _-_, arith, needs, now}
 use Rattle.block.proofs.Gather.{Gathered, gather-end, gather-start, gather-turn}
 use Rattle.evaluator.specs.Net.{reads}
 use Rattle.evaluator.specs.State.{cell}
@@ -36,18 +32,12 @@ loop-again c =
     (c .bit-below .ensures)
 
 pub port-bits-spec : {M : Type 1} → statement M
-port-bits-spec =
-    tie.close
-    (tie.spec
-    Inv-loop
-    μ-loop
+port-bits-spec = tie.close (tie.spec
+    Inv-loop μ-loop
     (λ c. gather-start _ _)
-    (λ c. search needs)
-    (λ c κs. search needs)
+    (λ c. search needs) (λ c κs. search needs)
     (λ c κs.
     let s = start-of (c .before .before) in
     (s .pre .0, rw (c .source-of .ensures) (s .pre .1 .0 .links _)))
-    (λ c κs. search needs)
-    (λ c. search needs)
-    loop-again
+    (λ c κs. search needs) (λ c. search needs) loop-again
     (λ c. gather-end (c .before .loop .inv) (omega arith)))

@@ -1,9 +1,6 @@
 -- `evaluator::turns::port_shows` meets its contract: the block's kind and state are read, and `block::shows` says what
 -- the port shows.
-use Prim.Native.Nat.{_≤_}
-use native.Mathlib.Omega.{arith}
-use borrow.Author.Needs.{needs}
-use denote.Ref.{now}
+use Rattle.wire.proofs.Usual.{_≤_, arith, needs, now}
 use Rattle.evaluator.proofs.Reading.{record-there, cell-there, shown-word}
 use Rattle.evaluator.proofs.turns.port_shows.Statement.{statement}
 use Rattle.evaluator.proofs.turns.port_shows.Tie as tie
@@ -26,16 +23,11 @@ returns c =
     (c .before .parameters-of .ensures) (q .part-at2 .ensures) (c .shows .ensures)
 
 pub port-shows-spec : {M : Type 1} → statement M
-port-shows-spec =
-    tie.close
-    (tie.spec
+port-shows-spec = tie.close (tie.spec
     (λ c. search needs)
     (λ c κs. let s = start-of c in record-there (s .pre .0) _ (s .pre .1))
     (λ c. omega (arith, few c))
     (λ c. search needs)
     (λ c. omega (arith, few c, start-of (c .before) .fits .a))
     (λ c κs. let s = start-of (c .before) in cell-there (s .pre .0) _ (s .pre .1))
-    (λ c κs. search needs)
-    (λ c κs. search needs)
-    (λ c κs. search needs)
-    returns)
+    (λ c κs. search needs) (λ c κs. search needs) (λ c κs. search needs) returns)

@@ -1,8 +1,5 @@
 -- `evaluator::turns::reading_turn` meets its contract: the family says which turn it is.
-use mathlib.Core.Path.{_≡_, sym, ap, _∙_}
-use mathlib.Core.Bool.{false}
-use borrow.Author.Needs.{needs}
-use denote.Ref.{now}
+use Rattle.wire.proofs.Usual.{_≡_, sym, ap, _∙_, false, needs, now}
 use Rattle.kind.specs.Kinds.{familyOf}
 use Rattle.project.specs.Project.{kindIn}
 use Rattle.block.proofs.Enters.{stop-enters}
@@ -38,12 +35,8 @@ returns-4 c =
     (left-is _ _ _ _ _ _ e fits _ (t .stop .ensures), (noted-not _ _ _ _ _ _ _ (sym quiet), quiet))
 
 pub reading-turn-spec : {M : Type 1} → statement M
-reading-turn-spec =
-    tie.close
-    (tie.spec
-    (λ c κs. search needs)
-    (λ c κs. search needs)
-    (λ c. search needs)
+reading-turn-spec = tie.close (tie.spec
+    (λ c κs. search needs) (λ c κs. search needs) (λ c. search needs)
     (λ c κs.
     let k = c .before in
     let f = k .before .before in
@@ -61,22 +54,7 @@ reading-turn-spec =
     let f = k .before .before in
     let p = start-of f .pre in
     (p .0, (p .1 .0, (p .1 .1 .0, (p .1 .1 .1, sym (family f) ∙ k .enum-told3 .given .1)))))
-    (λ c. search needs)
-    (λ c. search needs)
-    (λ c. search needs)
-    (λ c. search needs)
-    (λ c. search needs)
-    (λ c. search needs)
-    (λ c. search needs)
-    (λ c. search needs)
-    (λ c κs. search needs)
-    (λ c. search needs)
-    returns
-    (λ c. search needs)
-    (λ c. search needs)
-    (λ c. search needs)
-    (λ c. search needs)
-    (λ c. search needs)
-    (λ c. search needs)
-    (λ c. search needs)
-    returns-4)
+    (λ c. search needs) (λ c. search needs) (λ c. search needs) (λ c. search needs) (λ c. search needs)
+    (λ c. search needs) (λ c. search needs) (λ c. search needs) (λ c κs. search needs) (λ c. search needs) returns
+    (λ c. search needs) (λ c. search needs) (λ c. search needs) (λ c. search needs) (λ c. search needs)
+    (λ c. search needs) (λ c. search needs) returns-4)

@@ -1,13 +1,7 @@
 -- `evaluator::turns::run` meets its contract: each turn of the loop takes the state and the findings from one stage to
 -- the next (`Running`).
-use mathlib.Core.Path.{_≡_, refl, sym, ap, _∙_, subst}
-use mathlib.Core.Bool.{Bool, true, false, _||_, true≢false}
-use Prim.Native.Nat.{ℕ, _+_, _-_, _*_, _<_}
-use native.Mathlib.Nat.{zero-add}
-use native.Mathlib.Omega.{arith}
-use borrow.Author.Needs.{needs}
-use lib.ListN.{length, length-replicate}
-use denote.Ref.{now}
+use Rattle.wire.proofs.Usual.{_≡_, refl, sym, ap, _∙_, subst, Bool, true, false, _||_, true≢false, ℕ, _+_, _-_}
+use Rattle.wire.proofs.Usual.{_*_, _<_, zero-add, arith, needs, length, length-replicate, now}
 use Rattle.project.specs.Project.{orderOf}
 use Rattle.block.specs.State.{stateSize}
 use Rattle.block.specs.Finding.{findingSize}
@@ -86,26 +80,20 @@ returns c =
     )
 
 pub run-spec : {M : Type 1} → statement M
-run-spec =
-    tie.close
-    (tie.spec
-    Inv-loop
-    μ-loop
+run-spec = tie.close (tie.spec
+    Inv-loop μ-loop
     (λ c.
     let s = c .before .before .before .before .before .before in
     let a = s .args in
     held-start (a .h) (now (a .blocks)) (now (a .rec)) (now (a .phases)) (now (a .ranks)) (now (a .state))
     (now (a .findings)) (a .n) (s .pre))
-    (λ c κs. search needs)
-    (λ c. search needs)
+    (λ c κs. search needs) (λ c. search needs)
     (λ c κs.
     let y = c .before .before in
     let s = start-of (y .before .before) in
     let l = y .before .before in
     (standing-on (s .pre .standing) (l .loop .inv .cells .long) (s .pre .count), s .pre .due _ (block y .0)))
-    (λ c. search needs)
-    (λ c. search needs)
-    loop-again
+    (λ c. search needs) (λ c. search needs) loop-again
     (λ c. let l = c .before in l .loop .inv .cells .long
     ∙ sym (start-of l .pre .standing .state
     ∙ ap (λ (k : ℕ). stateHead (start-of l .args .h) + stateSize * k) (sym (start-of l .pre .count))))

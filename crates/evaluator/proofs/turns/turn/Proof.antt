@@ -1,11 +1,5 @@
 -- `evaluator::turns::turn` meets its contract: by whether the block asks for its inputs.
-use mathlib.Core.Path.{_≡_, sym, ap, ap₂, _∙_}
-use mathlib.Core.List.{List}
-use Prim.Native.Nat.{ℕ, _+_, _*_}
-use native.Mathlib.Omega.{arith}
-use borrow.Author.Needs.{needs}
-use denote.Ref.{now}
-use lib.Seq.{sets}
+use Rattle.wire.proofs.Usual.{_≡_, sym, ap, ap₂, _∙_, List, ℕ, _+_, _*_, arith, needs, now, sets}
 use Rattle.wire.specs.Words.{byteAt}
 use Rattle.kind.specs.Devices.{isErrAck}
 use Rattle.project.specs.Project.{groupIn, groupOf, blockRecord}
@@ -105,13 +99,10 @@ returns-2 c =
     (left-is _ _ _ _ _ _ e (within s .1 .1) _ (r .rest .ensures), (noted-not _ _ _ _ _ _ _ none, sym none))
 
 pub turn-spec : {M : Type 1} → statement M
-turn-spec =
-    tie.close
-    (tie.spec
+turn-spec = tie.close (tie.spec
     (λ c. omega (arith, within (c .before .before .before .before .before)))
     (λ c κs. let s = c .before .before .before .before .before in record-there (s .pre .0) _ (s .pre .1 .inside))
-    (λ c κs. search needs)
-    (λ c. search needs)
+    (λ c κs. search needs) (λ c. search needs)
     (λ c κs.
     let s = start-of (c .before) in
     rw (group c) (omega (arith, s .pre .1 .group, s .pre .0 .few, s .pre .1 .phases)))
@@ -141,12 +132,5 @@ turn-spec =
         ),
       ),
     ))
-    (λ c. search needs)
-    (λ c. search needs)
-    returns
-    (λ c. search needs)
-    (λ c. search needs)
-    (λ c. search needs)
-    (λ c κs. search needs)
-    (λ c. search needs)
-    returns-2)
+    (λ c. search needs) (λ c. search needs) returns (λ c. search needs) (λ c. search needs) (λ c. search needs)
+    (λ c κs. search needs) (λ c. search needs) returns-2)

@@ -1,8 +1,6 @@
 -- `evaluator::turns::twohand_turn` meets its contract: the hands are gathered, the block's bytes become its step's, and
 -- a block that enters ERROR is noted.
-use mathlib.Core.Path.{_≡_, sym, ap, _∙_}
-use borrow.Author.Needs.{needs}
-use denote.Ref.{now}
+use Rattle.wire.proofs.Usual.{_≡_, sym, ap, _∙_, needs, now}
 use Rattle.wire.proofs.Places.{ok, bad}
 use Rattle.project.specs.Project.{kindIn, groupIn, parametersIn}
 use Rattle.block.specs.Inputs.{effectiveMask, bitsFrom}
@@ -72,24 +70,8 @@ returns-2 c =
     (left, (n .note .ensures ∙ noted-is _ _ _ _ _ _ _ _ e said, sym e))
 
 pub twohand-turn-spec : {M : Type 1} → statement M
-twohand-turn-spec =
-    tie.close
-    (tie.spec
-    (λ c κs. search needs)
-    (λ c κs. search needs)
-    (λ c κs. search needs)
-    (λ c κs. search needs)
-    (λ c. search needs)
-    (λ c. search needs)
-    (λ c. search needs)
-    (λ c. search needs)
-    (λ c. search needs)
-    (λ c. search needs)
-    (λ c. search needs)
-    (λ c κs. search needs)
-    (λ c. search needs)
-    returns
-    (λ c κs. search needs)
-    (λ c. search needs)
-    (λ c. search needs)
-    returns-2)
+twohand-turn-spec = tie.close (tie.spec
+    (λ c κs. search needs) (λ c κs. search needs) (λ c κs. search needs) (λ c κs. search needs)
+    (λ c. search needs) (λ c. search needs) (λ c. search needs) (λ c. search needs) (λ c. search needs)
+    (λ c. search needs) (λ c. search needs) (λ c κs. search needs) (λ c. search needs) returns
+    (λ c κs. search needs) (λ c. search needs) (λ c. search needs) returns-2)

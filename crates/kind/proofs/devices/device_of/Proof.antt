@@ -6,9 +6,7 @@ use Rattle.kind.proofs.devices.device_of.Tie as tie
 
 pub device-of-spec : {M : Type 1} → statement M
 unfolding deviceOf
-device-of-spec =
-    tie.close
-    (tie.spec
+device-of-spec = tie.close (tie.spec
     (λ c. rw (eq-eqb _ 0 (c .if1 .taken)))
     (λ c. rw (ne-eqb _ 0 (c .before .if1 .left), eq-eqb _ 1 (c .if2 .taken)))
     (λ c. rw (ne-eqb _ 0 (c .before .if1 .left), ne-eqb _ 1 (c .if2 .left))))

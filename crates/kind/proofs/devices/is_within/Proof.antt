@@ -6,7 +6,5 @@ use Rattle.kind.proofs.devices.is_within.Tie as tie
 
 pub is-within-spec : {M : Type 1} → statement M
 unfolding isWithin
-is-within-spec =
-    tie.close
-    (tie.spec
+is-within-spec = tie.close (tie.spec
     (λ c. refl))

@@ -6,7 +6,5 @@ use Rattle.kind.proofs.devices.meets.Tie as tie
 
 pub meets-spec : {M : Type 1} → statement M
 unfolding meets
-meets-spec =
-    tie.close
-    (tie.spec
+meets-spec = tie.close (tie.spec
     (λ c. refl))

@@ -6,7 +6,5 @@ use Rattle.kind.proofs.parameters.arithmetic_rule.Tie as tie
 
 pub arithmetic-rule-spec : {M : Type 1} → statement M
 unfolding arithmeticRule
-arithmetic-rule-spec =
-    tie.close
-    (tie.spec
+arithmetic-rule-spec = tie.close (tie.spec
     (λ c. refl))

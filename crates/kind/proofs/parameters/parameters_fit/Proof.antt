@@ -1,35 +1,18 @@
 -- `kind::parameters_fit` meets its contract: the clause of the family, the spare bytes four at a time.
-use denote.Ref.{now}
+use Rattle.wire.proofs.Usual.{now, needs}
 use Rattle.kind.specs.Parameters.{parametersFit}
 use Rattle.kind.proofs.Zeros.{and-assoc, zeros4, zeros8, zeros12}
-use borrow.Author.Needs.{needs}
 use Rattle.kind.proofs.parameters.parameters_fit.Statement.{statement}
 use Rattle.kind.proofs.parameters.parameters_fit.Tie as tie
 
 pub parameters-fit-spec : {M : Type 1} → statement M
 unfolding parametersFit
-parameters-fit-spec =
-    tie.close
-    (tie.spec
-    (λ c. search needs)
-    (λ c κs. search needs)
-    (λ c κs. search needs)
-    (λ c κs. search needs)
-    (λ c. search needs)
-    (λ c κs. search needs)
-    (λ c κs. search needs)
-    (λ c κs. search needs)
-    (λ c κs. search needs)
-    (λ c κs. search needs)
-    (λ c. search needs)
-    (λ c κs. search needs)
-    (λ c κs. search needs)
-    (λ c κs. search needs)
-    (λ c κs. search needs)
-    (λ c κs. search needs)
-    (λ c κs. search needs)
-    (λ c κs. search needs)
-    (λ c. search needs)
+parameters-fit-spec = tie.close (tie.spec
+    (λ c. search needs) (λ c κs. search needs) (λ c κs. search needs) (λ c κs. search needs) (λ c. search needs)
+    (λ c κs. search needs) (λ c κs. search needs) (λ c κs. search needs) (λ c κs. search needs)
+    (λ c κs. search needs) (λ c. search needs) (λ c κs. search needs) (λ c κs. search needs)
+    (λ c κs. search needs) (λ c κs. search needs) (λ c κs. search needs) (λ c κs. search needs)
+    (λ c κs. search needs) (λ c. search needs)
     (λ c.
     let a = c .before .before in
     rw (

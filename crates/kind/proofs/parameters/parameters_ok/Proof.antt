@@ -6,10 +6,6 @@ use Rattle.kind.proofs.parameters.parameters_ok.Tie as tie
 
 pub parameters-ok-spec : {M : Type 1} → statement M
 unfolding parametersOk
-parameters-ok-spec =
-    tie.close
-    (tie.spec
-    (λ c κs. search needs)
-    (λ c κs. search needs)
-    (λ c κs. search needs)
+parameters-ok-spec = tie.close (tie.spec
+    (λ c κs. search needs) (λ c κs. search needs) (λ c κs. search needs)
     (λ c. rw (c .parameters-fit .ensures, c .before .family-of .ensures, c .before .before .on-device .ensures)))

@@ -6,8 +6,6 @@ use Rattle.kind.proofs.parameters.twohand_rule.Tie as tie
 
 pub twohand-rule-spec : {M : Type 1} → statement M
 unfolding twohandRule
-twohand-rule-spec =
-    tie.close
-    (tie.spec
+twohand-rule-spec = tie.close (tie.spec
     (λ c κs. search needs)
     (λ c. rw (c .before .before .before .before .before .is-within .ensures)))
