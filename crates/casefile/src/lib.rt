@@ -3,6 +3,8 @@
 // is total: a byte past the end reads as 0.
 ghost use mathlib.Core.Path.{_≡_};
 ghost use Rattle.contents.specs.Contents.{bodyOf};
+ghost use Rattle.project.specs.Project.{countsIn};
+ghost use Rattle.casefile.specs.Bodies.{projectOf};
 ghost use Rattle.casefile.specs.Refusal.{verdict, numberOf};
 
 mod channels;
@@ -11,6 +13,8 @@ mod orders;
 mod reader;
 mod records;
 mod table;
+
+use project::Counts;
 
 // The bodies, by their places in the table of contents.
 pub const BODY_G: u8 = 0;
@@ -34,6 +38,18 @@ pub fn body(file: &[u8], e: u8) -> &[u8]
     ensures { λ r. ⌜ now r ≡ bodyOf (now (file .entry)) e ⌝ }
 {
     reader::body(file, e)
+}
+
+// How many of each the file's project has.
+pub fn counts_in(file: &[u8]) -> Counts
+    ensures { λ r. ⌜ r ≡ countsIn (projectOf (now (file .entry))) ⌝ }
+{
+    project::counts_of(
+        body(file, BODY_G),
+        body(file, BODY_I),
+        body(file, BODY_B),
+        body(file, BODY_O),
+    )
 }
 
 // Whether a file is a case file, and if not, the number of the first rule of the table that it breaks.

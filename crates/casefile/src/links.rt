@@ -112,7 +112,8 @@ fn link_ok(inputs: &[u8], n: usize, blocks: &[u8], m: usize, r: &[u8], port: u8)
 fn first_bad_link(inputs: &[u8], n: usize, blocks: &[u8], m: usize, r: &[u8]) -> u8
     requires { ⌜ n ≡ inputCount (now inputs) ⌝ }
     requires { ⌜ m ≡ blockCount (now blocks) ⌝ }
-    ensures { λ x. ⌜ x ≡ firstBad (linkOk (now (inputs .entry)) (now (blocks .entry)) (now (r .entry))) linkCount ⌝ }
+    ensures { λ x. ⌜ x
+        ≡ firstBad (linkOk (now (inputs .entry)) (now (blocks .entry)) (now (r .entry))) linkCount ⌝ }
 {
     let mut p = 0;
     while p < project::LINKS {

@@ -109,7 +109,8 @@ fn output_rule(groups: usize, blocks: usize, r: &[u8], other: &[u8]) -> bool
 }
 
 pub fn first_bad_output(groups: &[u8], blocks: &[u8], outputs: &[u8]) -> usize
-    ensures { λ r. ⌜ r ≡ firstBad (outputRecordOk (now (groups .entry)) (now (blocks .entry)) (now (outputs .entry)))
+    ensures { λ r. ⌜ r
+        ≡ firstBad (outputRecordOk (now (groups .entry)) (now (blocks .entry)) (now (outputs .entry)))
         (outputCount (now (outputs .entry))) ⌝ }
 {
     let h = project::group_count(groups);

@@ -128,29 +128,20 @@ module _ (w : ℕ) (hit : ℕ → Bool) (f : ℕ → List ℕ) (long : (b : ℕ)
 
 -- ---- an accepted call
 
--- an answer that carries a count is no refusal
-isCount : Answer → Bool
-isCount (Findings k) = true
-isCount (Refused n) = false
-
-countIn : Answer → ℕ
-countIn (Findings k) = k
-countIn (Refused n) = 0
-
 module _ (F R : List ℕ) (L : Lent) where
   not-refused : (k : ℕ) → cycleOf F R L .answer ≡ Findings k → refusal F R L ≡ 0
-  unfolding isCount
   not-refused k e = go (ℕ-discrete (refusal F R L) 0)
     where
       go : Dec (refusal F R L ≡ 0) → refusal F R L ≡ 0
       go (yes z) = z
       go (no n) =
-          absurd
-          (true≢false
-          (sym (ap isCount (sym (ap (λ (l : Left). l .answer) (call-refused F R L (refusal F R L) refl n)) ∙ e))))
+          let turned : Refused (refusal F R L) ≡ Findings k =
+          sym (ap (λ (l : Left). l .answer) (call-refused F R L (refusal F R L) refl n)) ∙ e
+          in
+          let never : _≡_ {A = ℕ} 0 1 = cc in omega arith
 
   cycled : (k : ℕ) → cycleOf F R L .answer ≡ Findings k → CycledBy F R L (projectOf F) k
-  unfolding findingCount newFindings finding findingFor wordsRead countIn
+  unfolding findingCount newFindings finding findingFor wordsRead
   cycled k e = record {
     state = ap (λ (l : Left). l .lent .state) done;
     outputs = ap (λ (l : Left). l .lent .outputs) done;
@@ -188,7 +179,10 @@ module _ (F R : List ℕ) (L : Lent) where
       done = call-done F R L zero-number
 
       counted : k ≡ hits (blockCount B) (enters G B R S)
-      counted = ap countIn (sym e ∙ ap (λ (l : Left). l .answer) done)
+      counted =
+          let same : Findings k ≡ Findings (hits (blockCount B) (enters G B R S)) =
+          sym e ∙ ap (λ (l : Left). l .answer) done
+          in cc
 
       sound : Sound G B (inputCount (projectOf F .inputs))
       sound = call-taken F R L zero-number .sound

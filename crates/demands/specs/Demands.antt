@@ -86,8 +86,8 @@ pub record Cycled (F R : List ℕ) (L : Lent) (G B O S : List ℕ) (k : ℕ) : T
   pub found :
       (b : ℕ) → b < blockCount B → enters G B R S b ≡ true →
       slot 0 findingSize (hits b (enters G B R S)) (cycleOf F R L .lent .findings)
-      ≡ findingOf b (groupOf B b) (kindOf B b) (firstOf B b (wordsRead G B R S b)) (secondOf B b (wordsRead G B R S b))
-      (newBlock G B R S b)
+      ≡ findingOf b (groupOf B b) (kindOf B b)
+      (firstOf B b (wordsRead G B R S b)) (secondOf B b (wordsRead G B R S b)) (newBlock G B R S b)
   -- 01, "Finding": unused finding bytes are zero
   pub unused : (i : ℕ) → findingSize * k ≤ i → byteAt (cycleOf F R L .lent .findings) i ≡ 0
   -- 01, "What the reviewer must be able to rely on": each state that an accepted cycle leaves is well formed
@@ -100,7 +100,8 @@ CycledBy F R L P k = Cycled F R L (P .groups) (P .blocks) (P .outputs) (L .state
 -- 01, "What the reviewer must be able to rely on": demand 2, and that the fresh state of an accepted project is well
 -- formed
 pub record Demand2 : Type 0 where
-  pub cycles : (F R : List ℕ) (L : Lent) (k : ℕ) → cycleOf F R L .answer ≡ Findings k → CycledBy F R L (projectOf F) k
+  pub cycles :
+      (F R : List ℕ) (L : Lent) (k : ℕ) → cycleOf F R L .answer ≡ Findings k → CycledBy F R L (projectOf F) k
   pub fresh :
       (F : List ℕ) → verdict F ≡ Accepted →
       stateFormed (projectOf F .groups) (projectOf F .blocks) (freshFor (projectOf F)) ≡ true
@@ -111,5 +112,5 @@ pub record Demand2 : Type 0 where
 -- projects are alike give the same answers and leave the same bytes, over the same records, refused ones among them
 unfoldable pub Demand3 : Type 0
 Demand3 =
-    (F F′ : List ℕ) → verdict F ≡ Accepted → verdict F′ ≡ Accepted → Alike (projectOf F) (projectOf F′) →
-    (Rs : List (List ℕ)) (L : Lent) → run F Rs L ≡ run F′ Rs L
+    (F F′ : List ℕ) → verdict F ≡ Accepted → verdict F′ ≡ Accepted →
+    Alike (projectOf F) (projectOf F′) → (Rs : List (List ℕ)) (L : Lent) → run F Rs L ≡ run F′ Rs L

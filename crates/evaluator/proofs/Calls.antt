@@ -7,7 +7,7 @@ use Rattle.wire.specs.Tables.{first, AllKept}
 use Rattle.wire.proofs.Places.{both-left, both-right}
 use Rattle.wire.proofs.Tables.{numbered, numbered-append, first-zero, first-kept, first-broken}
 use Rattle.project.specs.declared.Counts.{Counts}
-use Rattle.project.specs.Project.{Project, groupCount, inputCount, recordSize}
+use Rattle.project.specs.Project.{Project, groupCount, inputCount, recordSize, countsIn}
 use Rattle.casefile.specs.Bodies.{projectOf}
 use Rattle.casefile.specs.Refusal.{fileTable}
 use Rattle.casefile.proofs.Refusals.{file-numbered, number-zero}
@@ -18,7 +18,7 @@ use Rattle.evaluator.specs.Groups.{elapsed}
 use Rattle.evaluator.specs.Cycle.{newState, newOutputs, newFindings, findingCount}
 use Rattle.evaluator.specs.Answer.{controlOk, inputFits, recordOk, Lent, lends, sizesOk, callRows, callTable}
 use Rattle.evaluator.specs.Answer.{refusal, leaves, cycleOf}
-use Rattle.evaluator.specs.Asks.{Admitted, countsIn}
+use Rattle.evaluator.specs.Asks.{Admitted}
 use Rattle.evaluator.proofs.Checking.{Taken, taken, groups-counted, blocks-counted, outputs-counted}
 
 -- no row of a call's table has the number 0

@@ -7,7 +7,7 @@ use Rattle.wire.proofs.Records.{word-within}
 use Rattle.project.specs.declared.Counts.{Counts}
 use Rattle.project.specs.Project.{Project, rowOf, device, groupCount, inputSize, inputCount, inputTypeIn, blockSize}
 use Rattle.project.specs.Project.{blockCount, kindIn, parametersIn, headSize, wordSize, recordSize, sizeCounted}
-use Rattle.project.specs.Project.{outputCount}
+use Rattle.project.specs.Project.{outputCount, countsIn}
 use Rattle.project.specs.Asks.{Sound, Shown}
 use Rattle.project.proofs.Counted.{is-device, is-groups, is-inputs, is-blocks, is-outputs, is-size}
 use Rattle.casefile.specs.Bodies.{projectOf}
@@ -19,7 +19,7 @@ use Rattle.block.specs.Finding.{findingSize}
 use Rattle.evaluator.specs.State.{stateHead, stateLength, outputsLength, findingsLength, cellFormed}
 use Rattle.evaluator.specs.Groups.{inputWord}
 use Rattle.evaluator.specs.Answer.{Lent, inputFits, sizesOk}
-use Rattle.evaluator.specs.Asks.{Few, Listed, Whole, countsIn}
+use Rattle.evaluator.specs.Asks.{Few, Listed, Whole}
 use Rattle.evaluator.proofs.Reading.{record-is, cell-is}
 
 -- ---- an accepted project

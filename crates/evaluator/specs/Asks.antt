@@ -17,7 +17,7 @@ use Rattle.project.specs.declared.Source.the-variants.{External, Output}
 use Rattle.project.specs.declared.Counts.{Counts}
 use Rattle.project.specs.Project.{rowOf, device, groupCount, inputSize, inputCount, blockSize, blockCount, blockRecord}
 use Rattle.project.specs.Project.{groupOf, orderOf, linkIn, blockAt, outputCount, outputBlock, outputPort, headSize}
-use Rattle.project.specs.Project.{wordSize, recordSize, countsOf, Project}
+use Rattle.project.specs.Project.{wordSize, recordSize}
 use Rattle.project.specs.Asks.{Sound, Shown}
 use Rattle.block.specs.State.{onlyIf, stateSize, entersFrom}
 use Rattle.block.specs.Step.{asksInputs}
@@ -238,10 +238,6 @@ pub record Whole (B : List ℕ) (h n : ℕ) : Type 0 where
   pub few : blockCount B ≤ 64
   pub long : length B ≡ blockSize * blockCount B
   pub fewGroups : h ≤ 8
-
--- the counts of a project
-abbrev pub countsIn : Project → Counts
-countsIn P = countsOf (P .groups) (P .inputs) (P .blocks) (P .outputs)
 
 -- 01, "Turned down", Sizes: counts that are small
 abbrev pub Few : Counts → Type 0

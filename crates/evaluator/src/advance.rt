@@ -45,7 +45,8 @@ pub fn whole_cycle(
     outputs: &mut [u8],
     findings: &mut [u8],
 ) -> u32
-    requires { ⌜ Admitted c (now groups) (now blocks) (now rows) (now rec) (now state) (now outputs) (now findings) ⌝ }
+    requires { ⌜ Admitted c (now groups) (now blocks) (now rows) (now rec)
+        (now state) (now outputs) (now findings) ⌝ }
     ensures left { λ _. ⌜ now (state .exit)
         ≡ newState (now (groups .entry)) (now (blocks .entry)) (now (rec .entry)) (now (state .entry)) ⌝ }
     ensures shown { λ _. ⌜ now (outputs .exit)

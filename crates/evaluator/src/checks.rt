@@ -45,7 +45,7 @@ fn group_formed(v: u8) -> bool
 }
 
 // 11: the first of n groups whose byte is not well formed, or n.
-fn first_bad_group(state: &[u8], n: usize) -> usize
+fn first_unformed_group(state: &[u8], n: usize) -> usize
     requires { ⌜ n ≤ 8 ⌝ }
     ensures { λ r. ⌜ r ≡ firstBad (headFormed (now (state .entry))) n ⌝ }
 {
@@ -71,7 +71,7 @@ fn cell_formed(blocks: &[u8], h: usize, state: &[u8], b: usize) -> bool
 }
 
 // 11: the first block whose bytes are not well formed, or the number of blocks.
-fn first_bad_block(c: Counts, blocks: &[u8], state: &[u8]) -> usize
+fn first_unformed_cell(c: Counts, blocks: &[u8], state: &[u8]) -> usize
     requires { ⌜ Whole (now blocks) (c .groups) (c .blocks) ⌝ }
     ensures { λ r. ⌜ r ≡ firstBad (cellFormed (c .groups) (now (blocks .entry)) (now (state .entry)))
         (blockCount (now (blocks .entry))) ⌝ }
@@ -95,7 +95,7 @@ pub fn state_ok(c: Counts, blocks: &[u8], state: &[u8]) -> bool
 {
     let groups = c.groups;
     let n = c.blocks;
-    (first_bad_group(state, groups) == groups) & (first_bad_block(c, blocks, state) == n)
+    (first_unformed_group(state, groups) == groups) & (first_unformed_cell(c, blocks, state) == n)
 }
 
 // 12: the first group with a wrong byte, or the number of groups.
@@ -131,8 +131,9 @@ fn word_ok(t: u8, w: u32) -> bool
 }
 
 // 12: the first input whose word is not of its type, or the number of inputs.
-fn first_bad_input(c: Counts, inputs: &[u8], rec: &[u8]) -> usize
-    requires { ⌜ (c .groups ≤ 8) × ((c .inputs ≡ inputCount (now inputs)) × (inputCount (now inputs) ≤ 128)) ⌝ }
+fn first_bad_word(c: Counts, inputs: &[u8], rec: &[u8]) -> usize
+    requires { ⌜ (c .groups ≤ 8)
+        × ((c .inputs ≡ inputCount (now inputs)) × (inputCount (now inputs) ≤ 128)) ⌝ }
     requires { ⌜ (length (now inputs) ≡ inputSize * c .inputs)
         × (length (now rec) ≡ headSize + c .groups + wordSize * c .inputs) ⌝ }
     ensures { λ r. ⌜ r ≡ firstBad (inputFits (c .groups) (now (inputs .entry)) (now (rec .entry)))
@@ -167,5 +168,5 @@ pub fn record_ok(c: Counts, groups: &[u8], inputs: &[u8], rec: &[u8]) -> bool
     (1 <= elapsed)
         & (elapsed <= 1000)
         & (first_bad_control(c, groups, rec) == h)
-        & (first_bad_input(c, inputs, rec) == n)
+        & (first_bad_word(c, inputs, rec) == n)
 }

@@ -93,10 +93,11 @@ fn runs_with(linked: u8, control: u8) -> bool
 pub fn decide(groups: &[u8], h: usize, rec: &[u8], errors: &[u8], state: &mut [u8]) -> [u8; 8]
     requires { ⌜ (h ≤ 8) × (stateHead h ≤ length (now state)) ⌝ }
     ensures left { λ _. ⌜ now (state .exit)
-        ≡ gather h (λ g. groupWith (now (errors .entry)) (now (groups .entry)) (now (rec .entry)) (now (state .entry)) g
-        ∷ []) ++ drop (stateHead h) (now (state .entry)) ⌝ }
-    ensures phases { λ r. ⌜ Decided (now (errors .entry)) (now (groups .entry)) (now (rec .entry)) (now (state .entry))
-        h r ⌝ }
+        ≡ gather h
+        (λ g. groupWith (now (errors .entry)) (now (groups .entry)) (now (rec .entry)) (now (state .entry)) g ∷ [])
+        ++ drop (stateHead h) (now (state .entry)) ⌝ }
+    ensures phases { λ r. ⌜ Decided (now (errors .entry)) (now (groups .entry)) (now (rec .entry))
+        (now (state .entry)) h r ⌝ }
 {
     let device = project::device_of(groups);
     let mut phases = [0u8; 8];

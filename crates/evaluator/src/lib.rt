@@ -4,11 +4,10 @@
 // the calls nobody knows the file: a project is its bodies.
 ghost use mathlib.Core.Path.{_≡_};
 ghost use Rattle.project.specs.Project.{inputCount};
-ghost use Rattle.casefile.specs.Bodies.{projectOf};
 ghost use Rattle.evaluator.specs.Answer.{lends, refusal, cycleOf};
 ghost use Rattle.evaluator.specs.Fresh.{sizesOf, freshNumber, freshLeft};
 ghost use Rattle.evaluator.specs.Steps.{stepAnswer, stepState, stepFindings};
-ghost use Rattle.evaluator.specs.Asks.{Standing, Grouped, Ordered, Begun, Listed, orderList, errorList, countsIn};
+ghost use Rattle.evaluator.specs.Asks.{Standing, Grouped, Ordered, Begun, Listed, orderList, errorList};
 
 mod advance;
 mod checks;
@@ -35,7 +34,7 @@ pub enum Answer {
 }
 
 // The number with which a call is turned down, 0 where it is not.
-fn refusal_of(file: &[u8], rec: &[u8], state: &[u8], outputs: &[u8], findings: &[u8]) -> u8
+fn call_refusal(file: &[u8], rec: &[u8], state: &[u8], outputs: &[u8], findings: &[u8]) -> u8
     ensures { λ r. ⌜ r ≡ refusal (now (file .entry)) (now (rec .entry))
         (lends (now (state .entry)) (now (outputs .entry)) (now (findings .entry))) ⌝ }
 {
@@ -91,7 +90,7 @@ pub fn cycle(
         ≡ cycleOf (now (file .entry)) (now (rec .entry))
         (lends (now (state .entry)) (now (outputs .entry)) (now (findings .entry))) .lent .findings ⌝ }
 {
-    let number = refusal_of(file, rec, state, outputs, findings);
+    let number = call_refusal(file, rec, state, outputs, findings);
     if number != 0 {
         return turned_down(number, state, outputs, findings);
     }
@@ -102,18 +101,6 @@ pub fn cycle(
     let c = project::counts_of(groups, inputs, blocks, rows);
     let count = advance::whole_cycle(c, groups, blocks, rows, rec, state, outputs, findings);
     Answer::Findings(count)
-}
-
-// The counts of the file's project.
-fn counts_in(file: &[u8]) -> Counts
-    ensures { λ r. ⌜ r ≡ countsIn (projectOf (now (file .entry))) ⌝ }
-{
-    project::counts_of(
-        casefile::body(file, casefile::BODY_G),
-        casefile::body(file, casefile::BODY_I),
-        casefile::body(file, casefile::BODY_B),
-        casefile::body(file, casefile::BODY_O),
-    )
 }
 
 // What the buffers' sizes are, or the number with which the file was turned down.
@@ -134,7 +121,7 @@ pub fn sizes_of(file: &[u8]) -> Sizes
     if number != 0 {
         return Sizes::Refused(number);
     }
-    let c = counts_in(file);
+    let c = casefile::counts_in(file);
     let groups = c.groups;
     let blocks = c.blocks;
     let outputs = c.outputs;
@@ -155,7 +142,7 @@ pub fn fresh(file: &[u8], state: &mut [u8]) -> u8
     if number != 0 {
         return number;
     }
-    let c = counts_in(file);
+    let c = casefile::counts_in(file);
     let groups = c.groups;
     let blocks = c.blocks;
     if state.len() != GROUPS_AT + groups + STATE_SIZE * blocks {
@@ -166,7 +153,7 @@ pub fn fresh(file: &[u8], state: &mut [u8]) -> u8
 }
 
 // ---- for a whole trace, whose file is checked once. What these three require is what `fresh` has tested, the bodies
-// of the file, and what they themselves leave.
+// of the file with their counts, a findings buffer of its size, and what they themselves leave.
 
 // The blocks by execution number.
 pub fn block_order(c: Counts, blocks: &[u8]) -> [u8; 64]

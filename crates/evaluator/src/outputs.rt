@@ -23,7 +23,8 @@ pub fn write_outputs(
     requires { ⌜ Showing (now blocks) (now rows) m ⌝ }
     requires { ⌜ length (now outputs) ≡ wordSize * m ⌝ }
     ensures { λ _. ⌜ now (outputs .exit)
-        ≡ gather m (λ o. bytes4 (outputShown h (now (blocks .entry)) (now (rows .entry)) (now (state .entry)) o)) ⌝ }
+        ≡ gather m
+        (λ o. bytes4 (outputShown h (now (blocks .entry)) (now (rows .entry)) (now (state .entry)) o)) ⌝ }
 {
     let mut o = 0;
     while o < m {

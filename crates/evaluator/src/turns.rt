@@ -16,8 +16,8 @@ ghost use Rattle.block.specs.Finding.{findingSize, findingOf};
 ghost use Rattle.evaluator.specs.Net.{reads};
 ghost use Rattle.evaluator.specs.State.{stateHead, cell};
 ghost use Rattle.evaluator.specs.Cycle.{wires, portShows};
-ghost use Rattle.evaluator.specs.Asks.{Standing, Named, Linked, Due, wordsOf, Turning, phaseAt, turned, entering};
-ghost use Rattle.evaluator.specs.Asks.{noted, Within, Running, ranWith, entersWith, slotWith};
+ghost use Rattle.evaluator.specs.Asks.{Standing, Named, Linked, Due, wordsOf, Turning, phaseAt, turned};
+ghost use Rattle.evaluator.specs.Asks.{entering, noted, Within, Running, ranWith, entersWith, slotWith};
 use crate::GROUPS_AT;
 use crate::parts::byte_at;
 use crate::parts::part_at;
@@ -108,8 +108,10 @@ fn decouple_turn(
     ensures left { λ _. ⌜ now (state .exit)
         ≡ sets (now (state .entry)) (stateHead h + stateSize * b)
         (turned h (now (blocks .entry)) (now (rec .entry)) phase (now (state .entry)) b) ⌝ }
-    ensures answered { λ x. ⌜ x ≡ entering h (now (blocks .entry)) (now (rec .entry)) phase (now (state .entry)) b ⌝ }
-    ensures quiet { λ _. ⌜ entering h (now (blocks .entry)) (now (rec .entry)) phase (now (state .entry)) b ≡ false ⌝ }
+    ensures answered { λ x. ⌜ x
+        ≡ entering h (now (blocks .entry)) (now (rec .entry)) phase (now (state .entry)) b ⌝ }
+    ensures quiet { λ _. ⌜ entering h (now (blocks .entry)) (now (rec .entry)) phase (now (state .entry)) b
+        ≡ false ⌝ }
 {
     let x = port_bits(blocks, r, rec, h, state, 8);
     let at = GROUPS_AT + h + STATE_SIZE * b;
@@ -137,7 +139,8 @@ fn twohand_turn(
         (turned h (now (blocks .entry)) (now (rec .entry)) phase (now (state .entry)) b) ⌝ }
     ensures told { λ _. ⌜ now (findings .exit)
         ≡ noted h (now (blocks .entry)) (now (rec .entry)) phase (now (state .entry)) b (now (findings .entry)) ⌝ }
-    ensures answered { λ x. ⌜ x ≡ entering h (now (blocks .entry)) (now (rec .entry)) phase (now (state .entry)) b ⌝ }
+    ensures answered { λ x. ⌜ x
+        ≡ entering h (now (blocks .entry)) (now (rec .entry)) phase (now (state .entry)) b ⌝ }
 {
     let p = project::parameters_of(r);
     let x = block::effective(p, port_bits(blocks, r, rec, h, state, 4));
@@ -171,7 +174,8 @@ fn arithmetic_turn(
         (turned h (now (blocks .entry)) (now (rec .entry)) phase (now (state .entry)) b) ⌝ }
     ensures told { λ _. ⌜ now (findings .exit)
         ≡ noted h (now (blocks .entry)) (now (rec .entry)) phase (now (state .entry)) b (now (findings .entry)) ⌝ }
-    ensures answered { λ x. ⌜ x ≡ entering h (now (blocks .entry)) (now (rec .entry)) phase (now (state .entry)) b ⌝ }
+    ensures answered { λ x. ⌜ x
+        ≡ entering h (now (blocks .entry)) (now (rec .entry)) phase (now (state .entry)) b ⌝ }
 {
     let x = port_word(blocks, rec, h, state, project::source_of(r, 0));
     let y = port_word(blocks, rec, h, state, project::source_of(r, 1));
@@ -206,7 +210,8 @@ fn reading_turn(
         (turned h (now (blocks .entry)) (now (rec .entry)) phase (now (state .entry)) b) ⌝ }
     ensures told { λ _. ⌜ now (findings .exit)
         ≡ noted h (now (blocks .entry)) (now (rec .entry)) phase (now (state .entry)) b (now (findings .entry)) ⌝ }
-    ensures answered { λ x. ⌜ x ≡ entering h (now (blocks .entry)) (now (rec .entry)) phase (now (state .entry)) b ⌝ }
+    ensures answered { λ x. ⌜ x
+        ≡ entering h (now (blocks .entry)) (now (rec .entry)) phase (now (state .entry)) b ⌝ }
 {
     let family = kind::family_of(project::kind_of(r));
     match family {
@@ -271,11 +276,14 @@ pub fn run(
 ) -> bool
     requires { ⌜ Running h (now blocks) (now rec) (now phases) (now ranks) (now state) (now findings) n ⌝ }
     ensures left { λ _. ⌜ now (state .exit) ≡ take (stateHead h) (now (state .entry))
-        ++ gather n (ranWith h (now (blocks .entry)) (now (rec .entry)) (now (phases .entry)) (now (state .entry))) ⌝ }
+        ++ gather n
+        (ranWith h (now (blocks .entry)) (now (rec .entry)) (now (phases .entry)) (now (state .entry))) ⌝ }
     ensures told { λ _. ⌜ now (findings .exit)
-        ≡ gather n (slotWith h (now (blocks .entry)) (now (rec .entry)) (now (phases .entry)) (now (state .entry))) ⌝ }
+        ≡ gather n
+        (slotWith h (now (blocks .entry)) (now (rec .entry)) (now (phases .entry)) (now (state .entry))) ⌝ }
     ensures none { λ r. ⌜ (r ≡ false → (b : ℕ) → b < n →
-        entersWith h (now (blocks .entry)) (now (rec .entry)) (now (phases .entry)) (now (state .entry)) b ≡ false) ⌝ }
+        entersWith h (now (blocks .entry)) (now (rec .entry)) (now (phases .entry)) (now (state .entry)) b
+        ≡ false) ⌝ }
 {
     let mut some = false;
     let mut e = 0;

@@ -32,27 +32,20 @@ unfolding hits
 hits-most zero hit = omega arith
 hits-most (suc n) hit = omega (arith, hits-most n hit, one-most (hit n))
 
--- the count that an answer has
-abbrev countIn : Answer → ℕ
-countIn (Findings k) = k
-countIn (Refused n) = 0
-
 module _ (F R : List ℕ) (L : Lent) where
-  few-left : (n : ℕ) → refusal F R L ≡ n → countIn (leaves n (projectOf F) R L .answer) ≤ mostBlocks
+  few-left : (n k : ℕ) → refusal F R L ≡ n → Findings k ≡ leaves n (projectOf F) R L .answer → k ≤ mostBlocks
   unfolding findingCount
-  few-left zero z =
+  few-left zero k z e =
       let P = projectOf F in
       let hit = enters (P .groups) (P .blocks) R (L .state) in
+      let counted : k ≡ hits (blockCount (P .blocks)) hit = cc in
       omega (arith, hits-most (blockCount (P .blocks)) hit, call-taken F R L z .sound .fewBlocks)
-  few-left (suc n) z = omega arith
-
-  few-counted : countIn (cycleOf F R L .answer) ≤ mostBlocks
-  unfolding cycleOf
-  few-counted = few-left (refusal F R L) refl
+  few-left (suc n) k z e = let never : _≡_ {A = ℕ} 0 1 = cc in omega arith
 
   -- an answer that is a count is at most the number of blocks that a file may have
   pub few : (k : ℕ) → Findings k ≡ cycleOf F R L .answer → k ≤ mostBlocks
-  few k e = subst (λ (n : ℕ). n ≤ mostBlocks) (sym (ap countIn e)) few-counted
+  unfolding cycleOf
+  few k e = few-left (refusal F R L) k refl e
 
 -- ---- the sizes, as they are left in numbers that were 0
 

@@ -27,8 +27,10 @@ pub extern "C" fn hagglethwait_sizes(
 ) -> u8
     ensures answered { λ r. ⌜ r ≡ sizesNumber (sizesOf (now (file .entry))) ⌝ }
     ensures stated { λ _. ⌜ now (state .exit) ≡ stateSaid (sizesOf (now (file .entry))) (now (state .entry)) ⌝ }
-    ensures shown { λ _. ⌜ now (outputs .exit) ≡ outputsSaid (sizesOf (now (file .entry))) (now (outputs .entry)) ⌝ }
-    ensures told { λ _. ⌜ now (findings .exit) ≡ findingsSaid (sizesOf (now (file .entry))) (now (findings .entry)) ⌝ }
+    ensures shown { λ _. ⌜ now (outputs .exit)
+        ≡ outputsSaid (sizesOf (now (file .entry))) (now (outputs .entry)) ⌝ }
+    ensures told { λ _. ⌜ now (findings .exit)
+        ≡ findingsSaid (sizesOf (now (file .entry))) (now (findings .entry)) ⌝ }
 {
     let sizes = evaluator::sizes_of(file);
     match sizes {

@@ -1,7 +1,7 @@
--- What ADD, SUB, MUL and DIV give: the exact result of the two inputs in ℤ, then whether the output type holds it, and
--- the numbers that a finding shows of it. Sum, difference and product are the library's (`lib.IntN`), `ltZ` its order
--- (`lib.Signed`), `/` and `%` of naturals cut. 001, 4.16 to 4.19, and where it is silent 01, "Arithmetic.". Assumes
--- nothing.
+-- What ADD, SUB, MUL and DIV give: the exact result of the two inputs in ℤ, then whether the output type holds it,
+-- and the numbers that a finding shows of it. Sum, difference and product are the library's (`lib.IntN`), `ltZ` its
+-- order (`lib.Signed`), `/` and `%` of naturals cut. 001, 4.16 to 4.19, and where it is silent 01, "Arithmetic.".
+-- Assumes nothing.
 use Prim.Native.Nat.{ℕ, _+_, _*_, _/_, _%_}
 use mathlib.Core.Bool.{Bool, true, false, cond, not, _&&_}
 use lib.Dec.{ltb, leb, eqb}

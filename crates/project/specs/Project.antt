@@ -197,3 +197,7 @@ countsOf G I B O = record {
   outputs = outputCount O;
   size = sizeCounted G I;
 }
+
+-- the counts of a project
+abbrev pub countsIn : Project → Counts
+countsIn P = countsOf (P .groups) (P .inputs) (P .blocks) (P .outputs)

@@ -4,14 +4,14 @@ use Rattle.wire.proofs.Usual.{_≡_, refl, sym, ap, ap₂, _∙_, _≢_, true, 
 use Rattle.wire.proofs.Usual.{ℕ-discrete, arith, length}
 use Rattle.wire.specs.Tables.{first}
 use Rattle.project.specs.declared.Counts.{Counts}
-use Rattle.project.specs.Project.{rowOf, groupCount, inputCount, recordSize}
+use Rattle.project.specs.Project.{rowOf, groupCount, inputCount, recordSize, countsIn}
 use Rattle.casefile.specs.Bodies.{projectOf, recordCount, recordOf}
 use Rattle.casefile.specs.Refusal.{fileTable}
 use Rattle.casefile.proofs.Refusals.{number-zero}
 use Rattle.casefile.proofs.Accepted.{accepted}
 use Rattle.evaluator.specs.State.{stateLength, findingsLength, stateFormed}
 use Rattle.evaluator.specs.Fresh.{freshNumber, freshLeft, freshFor}
-use Rattle.evaluator.specs.Asks.{Standing, Grouped, Ordered, Listed, Begun, countsIn, errorList}
+use Rattle.evaluator.specs.Asks.{Standing, Grouped, Ordered, Listed, Begun, errorList}
 use Rattle.evaluator.proofs.Checking.{Taken, taken, groups-counted, blocks-counted, listed}
 use Rattle.evaluator.proofs.Checked.{standing, grouped, ordered}
 use Rattle.evaluator.proofs.FreshFormed.{fresh-refused, fresh-done}

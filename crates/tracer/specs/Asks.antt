@@ -10,7 +10,8 @@ use Rattle.project.specs.declared.Counts.{Counts}
 use Rattle.casefile.specs.Bodies.{bodyT, projectOf}
 use Rattle.casefile.specs.Refusal.{fileTable}
 use Rattle.evaluator.specs.State.{stateLength, findingsLength}
-use Rattle.evaluator.specs.Asks.{countsIn, orderList}
+use Rattle.project.specs.Project.{countsIn}
+use Rattle.evaluator.specs.Asks.{orderList}
 
 -- 01, "The trace program": an accepted file, its counts, groups, inputs, blocks and records, the blocks by execution
 -- number, and room for the findings

@@ -5,7 +5,6 @@ ghost use mathlib.Core.Path.{_≡_};
 ghost use Prim.Native.Nat.{_/_, _%_, _<_, _≤_};
 ghost use lib.ListN.{length};
 ghost use Rattle.casefile.specs.Bodies.{projectOf};
-ghost use Rattle.evaluator.specs.Asks.{countsIn};
 ghost use Rattle.evaluator.specs.Fresh.{freshFor};
 ghost use Rattle.tracer.specs.Traced.{Told, stateAfter, runEnd, endOf};
 ghost use Rattle.tracer.specs.Asks.{Started, Offered};
@@ -170,18 +169,6 @@ fn least(a: usize, b: usize) -> usize
     if a < b { a } else { b }
 }
 
-// The counts of the file's project.
-fn counts_in(file: &[u8]) -> Counts
-    ensures { λ r. ⌜ r ≡ countsIn (projectOf (now (file .entry))) ⌝ }
-{
-    project::counts_of(
-        casefile::body(file, casefile::BODY_G),
-        casefile::body(file, casefile::BODY_I),
-        casefile::body(file, casefile::BODY_B),
-        casefile::body(file, casefile::BODY_O),
-    )
-}
-
 // The trace of a file, over buffers that have the sizes of an accepted one's, but for its last line.
 fn start(file: &[u8], c: Counts, state: &mut [u8], findings: &mut [u8]) -> End
     requires { ⌜ Offered (now file) c (now state) (now findings) ⌝ }
@@ -215,7 +202,7 @@ pub fn trace(file: &[u8]) -> End
 {
     let mut state = [0u8; GROUPS_AT + GROUPS + STATE_SIZE * BLOCKS];
     let mut findings = [0u8; FINDING_SIZE * BLOCKS];
-    let c = counts_in(file);
+    let c = casefile::counts_in(file);
     let blocks = least(c.blocks, BLOCKS);
     let size = GROUPS_AT + least(c.groups, GROUPS) + STATE_SIZE * blocks;
     let room = FINDING_SIZE * blocks;

@@ -9,11 +9,11 @@ use Rattle.evaluator.proofs.Checking.{Taken}
 use Rattle.evaluator.proofs.cycle.Statement.{statement}
 use Rattle.evaluator.proofs.cycle.Tie as tie
 
-abbrev start-of : tie.After-refusal-of → tie.Start
+abbrev start-of : tie.After-call-refusal → tie.Start
 start-of c = c .before .before .before .before .before .before .before .before .before
 
 -- what the call is lent
-abbrev lent-of : tie.After-refusal-of → Lent
+abbrev lent-of : tie.After-call-refusal → Lent
 lent-of c = let a = start-of c .args in lends (now (a .state)) (now (a .outputs)) (now (a .findings))
 
 -- what the answer and the three buffers are, from what the call comes to
@@ -33,7 +33,7 @@ returns c =
     let a = start-of k .args in
     let d =
     all-four
-    (call-refused (now (a .file)) (now (a .rec)) (lent-of k) (k .refusal-of .result) (sym (k .refusal-of .ensures))
+    (call-refused (now (a .file)) (now (a .rec)) (lent-of k) (k .call-refusal .result) (sym (k .call-refusal .ensures))
     (n .if1 .taken))
     in
     let r = t .turned-down .ensures in (
@@ -44,7 +44,7 @@ returns c =
 -- no test failed
 no-number : (c : tie.Else1) →
     let a = start-of (c .before) .args in refusal (now (a .file)) (now (a .rec)) (lent-of (c .before)) ≡ 0
-no-number c = sym (c .before .refusal-of .ensures) ∙ c .if1 .left
+no-number c = sym (c .before .call-refusal .ensures) ∙ c .if1 .left
 
 -- the project of the bodies that were handed out is the file's
 abbrev else-of : tie.After-counts-of → tie.Else1

@@ -42,7 +42,7 @@ returns-2 c =
     ((leb 1 (c .before .before .read16 .ensures i) && leb (c .before .before .read16 .ensures i) 1000)
     && eqb (c .before .first-bad-control .ensures i) (s .pre .groups i))
     && eqb
-    ((c .first-bad-input .ensures ∙ ap (λ (h : ℕ). firstBad (inputFits h I R) (inputCount I)) (s .pre .groups)) i)
+    ((c .first-bad-word .ensures ∙ ap (λ (h : ℕ). firstBad (inputFits h I R) (inputCount I)) (s .pre .groups)) i)
     (s .pre .inputs i))
 
 pub record-ok-spec : {M : Type 1} → statement M

@@ -9,8 +9,8 @@ unfolding all
 returns c =
     let s = c .before .before .before .before in
     λ i.
-    eqb (c .before .first-bad-group .ensures i) (s .args .c .groups)
-    && eqb (c .first-bad-block .ensures i) (s .pre .count i)
+    eqb (c .before .first-unformed-group .ensures i) (s .args .c .groups)
+    && eqb (c .first-unformed-cell .ensures i) (s .pre .count i)
 
 pub state-ok-spec : {M : Type 1} → statement M
 state-ok-spec = tie.close (tie.spec (λ c κs. c .before .before .pre .fewGroups) (λ c κs. search needs) returns)

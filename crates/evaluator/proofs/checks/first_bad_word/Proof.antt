@@ -1,12 +1,12 @@
--- `evaluator::checks::first_bad_input` meets its contract: the loop passes inputs whose word is of their type, and
+-- `evaluator::checks::first_bad_word` meets its contract: the loop passes inputs whose word is of their type, and
 -- stops at the first other. The records stand in I, and the words in the record.
 use Rattle.wire.proofs.Usual.{_≡_, _+_, _-_, _*_, _≤_, _<_, arith, needs, length, now}
 use Rattle.wire.proofs.Places.{Passed, begin, more, hit, done}
 use Rattle.project.specs.Project.{inputCount, headSize, inputSize, wordSize}
 use Rattle.evaluator.specs.Answer.{inputFits}
 use Rattle.evaluator.proofs.Checking.{input-is}
-use Rattle.evaluator.proofs.checks.first_bad_input.Statement.{statement}
-use Rattle.evaluator.proofs.checks.first_bad_input.Tie as tie
+use Rattle.evaluator.proofs.checks.first_bad_word.Statement.{statement}
+use Rattle.evaluator.proofs.checks.first_bad_word.Tie as tie
 
 abbrev Inv-loop : tie.InvT-loop
 Inv-loop inputs rec h n i₀ i = Passed (inputFits h inputs rec) (inputCount inputs) i
@@ -54,8 +54,8 @@ tested c =
     (w .before .before .part-at .ensures) (c .before .input-type .ensures) (w .before .part-at2 .ensures)
     (w .read32 .ensures) (c .word-ok .ensures)
 
-pub first-bad-input-spec : {M : Type 1} → statement M
-first-bad-input-spec = tie.close (tie.spec
+pub first-bad-word-spec : {M : Type 1} → statement M
+first-bad-word-spec = tie.close (tie.spec
     Inv-loop μ-loop
     (λ c. begin _ _)
     (λ c. omega (arith, within c))

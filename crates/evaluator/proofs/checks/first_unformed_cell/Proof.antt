@@ -1,11 +1,11 @@
--- `evaluator::checks::first_bad_block` meets its contract: the loop passes blocks whose bytes are well formed, and
+-- `evaluator::checks::first_unformed_cell` meets its contract: the loop passes blocks whose bytes are well formed, and
 -- stops at the first other.
 use Rattle.wire.proofs.Usual.{_-_, arith, needs, refl}
 use Rattle.wire.proofs.Places.{Passed, begin, more, hit, done}
 use Rattle.project.specs.Project.{blockCount}
 use Rattle.evaluator.specs.State.{cellFormed}
-use Rattle.evaluator.proofs.checks.first_bad_block.Statement.{statement}
-use Rattle.evaluator.proofs.checks.first_bad_block.Tie as tie
+use Rattle.evaluator.proofs.checks.first_unformed_cell.Statement.{statement}
+use Rattle.evaluator.proofs.checks.first_unformed_cell.Tie as tie
 
 abbrev Inv-loop : tie.InvT-loop
 Inv-loop blocks state h n b₀ b = Passed (cellFormed h blocks state) (blockCount blocks) b
@@ -13,8 +13,8 @@ Inv-loop blocks state h n b₀ b = Passed (cellFormed h blocks state) (blockCoun
 abbrev μ-loop : tie.MeasureT-loop
 μ-loop blocks state h n b₀ b = n - b
 
-pub first-bad-block-spec : {M : Type 1} → statement M
-first-bad-block-spec = tie.close (tie.spec
+pub first-unformed-cell-spec : {M : Type 1} → statement M
+first-unformed-cell-spec = tie.close (tie.spec
     Inv-loop μ-loop
     (λ c. begin _ _)
     (λ c κs.

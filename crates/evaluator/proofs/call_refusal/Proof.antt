@@ -1,4 +1,4 @@
--- `evaluator::refusal_of` meets its contract: at each `return` the tests that led there give the number (`Calls`).
+-- `evaluator::call_refusal` meets its contract: at each `return` the tests that led there give the number (`Calls`).
 use Rattle.wire.proofs.Usual.{_≡_, sym, ap, _∙_, subst, true, needs, now}
 use Rattle.wire.specs.Tables.{first}
 use Rattle.wire.proofs.Places.{ok, bad}
@@ -11,8 +11,8 @@ use Rattle.evaluator.specs.State.{formedWith, stateFormed}
 use Rattle.evaluator.specs.Answer.{refusal, Lent, lends, sizesOk, callRows}
 use Rattle.evaluator.proofs.Checking.{Taken, taken, groups-counted, few, whole, listed, sizes-fit}
 use Rattle.evaluator.proofs.Calls.{refused-file, refused-rows, rows-10, rows-11, rows-12, rows-none}
-use Rattle.evaluator.proofs.refusal_of.Statement.{statement}
-use Rattle.evaluator.proofs.refusal_of.Tie as tie
+use Rattle.evaluator.proofs.call_refusal.Statement.{statement}
+use Rattle.evaluator.proofs.call_refusal.Tie as tie
 
 abbrev start-of : tie.After-number-of → tie.Start
 start-of c = c .before .before .before .before .before .before .before
@@ -134,8 +134,8 @@ returns-5 c =
     let k = d .before .before in
     sym (rows-none (project-of k) _ _ (sized d) (formed f) (ok (c .before .record-ok .ensures) (c .if4 .left))) ∙ rows k
 
-pub refusal-of-spec : {M : Type 1} → statement M
-refusal-of-spec = tie.close (tie.spec
+pub call-refusal-spec : {M : Type 1} → statement M
+call-refusal-spec = tie.close (tie.spec
     (λ c κs. search needs) (λ c κs. search needs) returns (λ c κs. search needs) (λ c κs. search needs)
     (λ c κs. search needs) (λ c κs. search needs) (λ c κs. search needs)
     (λ c κs. few (c .counts-of .ensures) (tested c))

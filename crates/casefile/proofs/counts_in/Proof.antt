@@ -1,9 +1,9 @@
--- `tracer::counts_in` meets its contract: the bodies are those of the file's project.
+-- `casefile::counts_in` meets its contract: the bodies are those of the file's project.
 use Rattle.wire.proofs.Usual.{_∙_, needs}
 use Rattle.project.specs.Project.{countsOf}
 use Rattle.casefile.specs.Bodies.{projectOf}
-use Rattle.tracer.proofs.counts_in.Statement.{statement}
-use Rattle.tracer.proofs.counts_in.Tie as tie
+use Rattle.casefile.proofs.counts_in.Statement.{statement}
+use Rattle.casefile.proofs.counts_in.Tie as tie
 
 returns : tie.Need-returns
 unfolding projectOf
