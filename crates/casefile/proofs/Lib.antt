@@ -6,3 +6,4 @@ pub mod Facts
 pub mod Refusals
 pub mod Accepted
 pub mod Listing
+pub mod Handed

@@ -202,7 +202,12 @@ pub fn trace(file: &[u8]) -> End
 {
     let mut state = [0u8; GROUPS_AT + GROUPS + STATE_SIZE * BLOCKS];
     let mut findings = [0u8; FINDING_SIZE * BLOCKS];
-    let c = casefile::counts_in(file);
+    let c = project::counts_of(
+        casefile::body(file, casefile::BODY_G),
+        casefile::body(file, casefile::BODY_I),
+        casefile::body(file, casefile::BODY_B),
+        casefile::body(file, casefile::BODY_O),
+    );
     let blocks = least(c.blocks, BLOCKS);
     let size = GROUPS_AT + least(c.groups, GROUPS) + STATE_SIZE * blocks;
     let room = FINDING_SIZE * blocks;
