@@ -12,7 +12,8 @@ unfolding entersFrom encode
 fails-enters true d e s = refl
 fails-enters false d e s = refl
 
-pub holds-enters : (b : Bool) (w : ℕ) (s : List ℕ) → entersFrom s (encode (cond b (running w) (plain RESET))) ≡ false
+pub holds-enters : (b : Bool) (w : ℕ) (s : List ℕ) → entersFrom s (encode (cond b (running w) (plain RESET)))
+    ≡ false
 unfolding entersFrom encode
 holds-enters true w s = refl
 holds-enters false w s = refl

@@ -15,7 +15,8 @@ use Rattle.casefile.specs.declared.table.Rule.{Rule}
 use Rattle.casefile.specs.declared.table.Rule.the-variants.{Size}
 use Rattle.contents.specs.Contents.{bodyOf}
 use Rattle.casefile.specs.Bodies.{bodyG, bodyI, bodyB}
-use Rattle.casefile.specs.Refusal.{rules, ruleCount, ruleAt, refusalOf, holds, fileRow, fileTable, told, verdict}
+use Rattle.casefile.specs.Refusal.{rules, ruleCount, ruleAt, refusalOf, holds, fileRow, fileTable, told}
+use Rattle.casefile.specs.Refusal.{verdict}
 use Rattle.casefile.specs.Refusal.{numberOf}
 use Rattle.casefile.specs.Asks.{Reached}
 
@@ -50,7 +51,8 @@ follows true b e h = h
 follows false b e h = absurd (true≢false (sym e))
 
 module _ (F : List ℕ) (k : ℕ) (l : k < ruleCount) (i : Passed (keptAt (fileTable F)) ruleCount k) where
-  earlier : (m : ℕ) {r : Rule} → After m → ruleAt (firstOf m) ≡ r → m < refusalOf (ruleAt k) → holds F r ≡ true
+  earlier : (m : ℕ) {r : Rule} → After m → ruleAt (firstOf m) ≡ r → m < refusalOf (ruleAt k) →
+      holds F r ≡ true
   earlier m {r} after is h =
       let n = refusalOf (ruleAt k) in
       let before = ltb-true (firstOf m) k
@@ -67,8 +69,8 @@ module _ (F : List ℕ) (k : ℕ) (l : k < ruleCount) (i : Passed (keptAt (fileT
   }
 
 -- the same of equal bodies and an equal rule
-pub said-of : {G G′ I I′ B B′ : List ℕ} {r r′ : Rule} → G ≡ G′ → I ≡ I′ → B ≡ B′ → r ≡ r′ →
-    Reached G′ I′ B′ r′ → Reached G I B r
+pub said-of : {G G′ I I′ B B′ : List ℕ} {r r′ : Rule} → G ≡ G′ → I ≡ I′ → B ≡ B′ →
+    r ≡ r′ → Reached G′ I′ B′ r′ → Reached G I B r
 said-of g i b e w = rw (g, i, b, e) w
 
 -- ---- the answer, by the first place that fails

@@ -91,12 +91,14 @@ module _ (G I O : List ℕ) (P P′ : Project) (alike : Alike P P′) {n : ℕ}
     unfolding phase
     phase-same k = ap (λ (x : ℕ). phaseOf G R x k) (new-group-same k)
 
-    turned-same : (ph b : ℕ) (s : List ℕ) (f : ℕ → ℕ) → turnedFrom B R ph b s f ≡ turnedFrom B′ R ph b s f
+    turned-same : (ph b : ℕ) (s : List ℕ) (f : ℕ → ℕ) →
+        turnedFrom B R ph b s f ≡ turnedFrom B′ R ph b s f
     unfolding turnedFrom
     turned-same ph b s f = rw (kind-same alike b, group-same alike b, parameters-same alike b)
 
     step-same : (b : ℕ) (s : List ℕ) (f : ℕ → ℕ) →
-        turnedFrom B R (phase G B R S (groupOf B b)) b s f ≡ turnedFrom B′ R (phase G B′ R S (groupOf B′ b)) b s f
+        turnedFrom B R (phase G B R S (groupOf B b)) b s f
+        ≡ turnedFrom B′ R (phase G B′ R S (groupOf B′ b)) b s f
     step-same b s f =
         turned-same (phase G B R S (groupOf B b)) b s f
         ∙ ap (λ (ph : ℕ). turnedFrom B′ R ph b s f)
@@ -114,13 +116,15 @@ module _ (G I O : List ℕ) (P P′ : Project) (alike : Alike P P′) {n : ℕ}
       steps = λ b s f _. step-same b s f;
       closed = λ b p a q l e. g .output b p a q l e;
       before =
-          λ b p a q l e. ltb-iff (orderOf B a) (orderOf B b) (orderOf B′ a) (orderOf B′ b) (alike .along b p a q l e);
+          λ b p a q l e. ltb-iff (orderOf B a) (orderOf B b) (orderOf B′ a) (orderOf B′ b)
+          (alike .along b p a q l e);
     }
 
     block-same : (b : ℕ) → b < blockCount B → newBlock G B R S b ≡ newBlock G B′ R S b
     unfolding newBlock ran
     block-same b l =
-        agree (λ b. b < blockCount B) (net h B R (phase G B R S)) (net h B′ R (phase G B′ R S)) (orderOf B) (orderOf B′)
+        agree (λ b. b < blockCount B) (net h B R (phase G B R S)) (net h B′ R (phase G B′ R S))
+        (orderOf B) (orderOf B′)
         (cell h S) (cell h S) nets (blockCount B) (blockCount B′) b l (g .orderBelow b l)
         (g′ .orderBelow b (rw count at l))
 
@@ -129,14 +133,16 @@ module _ (G I O : List ℕ) (P P′ : Project) (alike : Alike P P′) {n : ℕ}
     words-same b l =
         fun-ext (λ p.
         reads-same (λ b. b < blockCount B) (net h B R (phase G B R S)) (net h B′ R (phase G B′ R S)) (orderOf B)
-        (orderOf B′) (cell h S) (cell h S) nets b p l (newBlock G B R S) (newBlock G B′ R S) (λ a k _ _. block-same a k)
+        (orderOf B′) (cell h S) (cell h S) nets b p l (newBlock G B R S) (newBlock G B′ R S)
+        (λ a k _ _. block-same a k)
         (linkOf B b p) refl
         ∙ ap (reads (wires h B′ R) (seen (orderOf B′) (cell h S) (newBlock G B′ R S) b)) (link-same alike b p))
 
     head-same : newHead G B R S ≡ newHead G B′ R S
     unfolding newHead
     head-same =
-        gather-same h (λ k. newGroup G B R S k ∷ []) (λ k. newGroup G B′ R S k ∷ []) (λ k _ i. new-group-same k i ∷ [])
+        gather-same h (λ k. newGroup G B R S k ∷ []) (λ k. newGroup G B′ R S k ∷ [])
+        (λ k _ i. new-group-same k i ∷ [])
 
     state-same : newState G B R S ≡ newState G B′ R S
     unfolding newState
@@ -239,7 +245,8 @@ module _ (F F′ : List ℕ) (ok : verdict F ≡ Accepted) (ok′ : verdict F′
   cycle-same : (R : List ℕ) (L : Lent) → cycleOf F R L ≡ cycleOf F′ R L
   unfolding cycleOf
   cycle-same R L =
-      leaves-same (P .groups) (P .inputs) (P .outputs) P P′ alike (t .sound) (t′ .sound) (t .shown) R L (refusal F R L)
+      leaves-same (P .groups) (P .inputs) (P .outputs) P P′ alike (t .sound) (t′ .sound) (t .shown) R L
+      (refusal F R L)
       ∙ ap₂ (λ (n : ℕ) (p : Project). leaves n p R L) (refusal-same R L) other
 
   run-same : (Rs : List (List ℕ)) (L : Lent) → run F Rs L ≡ run F′ Rs L

@@ -66,8 +66,8 @@ module _ (P : Project) (R : List ℕ) (L : Lent) where
     pub given : recordOk (P .groups) (P .inputs) R ≡ true
 
 -- what was tested is what a cycle asks
-pub admitted : (P : Project) (R : List ℕ) (L : Lent) (c : Counts) → c ≡ countsIn P → Taken P → Passed P R L →
-    Admitted c (P .groups) (P .blocks) (P .outputs) R (L .state) (L .outputs) (L .findings)
+pub admitted : (P : Project) (R : List ℕ) (L : Lent) (c : Counts) → c ≡ countsIn P → Taken P →
+    Passed P R L → Admitted c (P .groups) (P .blocks) (P .outputs) R (L .state) (L .outputs) (L .findings)
 unfolding sizesOk recordSize
 admitted P R L c e t p =
     let s = eqb (length (L .state)) (stateLength (P .groups) (P .blocks)) in
@@ -97,14 +97,16 @@ module _ (F R : List ℕ) (L : Lent) where
       e ∙ sym (first-broken (fileTable F) (callRows (projectOf F) R L) (λ z. k (e ∙ z)))
 
   -- of an accepted one, P is the project
-  pub refused-rows : first (fileTable F) ≡ 0 → (P : Project) → P ≡ projectOf F → first (callRows P R L) ≡ refusal F R L
+  pub refused-rows : first (fileTable F) ≡ 0 → (P : Project) → P ≡ projectOf F →
+      first (callRows P R L) ≡ refusal F R L
   unfolding refusal callTable
   refused-rows z P e =
       ap (λ (p : Project). first (callRows p R L)) e
       ∙ sym (first-kept (fileTable F) (callRows (projectOf F) R L) (first-zero (fileTable F) (file-numbered F) .0 z))
 
   -- a call that is turned down with the number n
-  pub call-refused : (n : ℕ) → refusal F R L ≡ n → n ≢ 0 → cycleOf F R L ≡ record { answer = Refused n; lent = L }
+  pub call-refused : (n : ℕ) → refusal F R L ≡ n → n ≢ 0 →
+      cycleOf F R L ≡ record { answer = Refused n; lent = L }
   unfolding cycleOf
   call-refused zero e k = absurd (k refl)
   call-refused (suc n) e k = rw e
@@ -146,7 +148,8 @@ module _ (F R : List ℕ) (L : Lent) where
 
   -- a call that ran the cycle over the bodies of P
   pub call-made : (P : Project) (S O D : List ℕ) (n : ℕ) → refusal F R L ≡ 0 → P ≡ projectOf F →
-      n ≡ findingCount (P .groups) (P .blocks) R (L .state) → S ≡ newState (P .groups) (P .blocks) R (L .state) →
+      n ≡ findingCount (P .groups) (P .blocks) R (L .state) →
+      S ≡ newState (P .groups) (P .blocks) R (L .state) →
       O ≡ newOutputs (P .groups) (P .blocks) (P .outputs) R (L .state) →
       D ≡ newFindings (P .groups) (P .blocks) R (L .state) →
       cycleOf F R L ≡ record { answer = Findings n; lent = lends S O D }

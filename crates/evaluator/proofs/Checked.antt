@@ -25,7 +25,8 @@ use Rattle.evaluator.specs.Asks.{noteIn, outputShown, ranWith, slotWith}
 use Rattle.evaluator.specs.State.{cell, cellFormed, findingsLength, groupByte, groupFormed, headFormed}
 use Rattle.evaluator.specs.State.{isAcknowledged, isHeld, outputsLength, stateFormed, stateHead, stateLength}
 use Rattle.evaluator.specs.Groups.{controlByte, groupFrom, groupNext, hasError, newGroup, pends}
-use Rattle.evaluator.specs.Cycle.{findingCount, newBlock, newFindings, newHead, newOutputs, newState, outputWord}
+use Rattle.evaluator.specs.Cycle.{findingCount, newBlock, newFindings, newHead, newOutputs, newState}
+use Rattle.evaluator.specs.Cycle.{outputWord}
 use Rattle.evaluator.specs.Cycle.{portShows}
 use Rattle.evaluator.specs.Packed.{hits, packed}
 use Rattle.evaluator.proofs.Cycles.{block-formed, block-length, count-new, count-none, decidedState}
@@ -43,7 +44,8 @@ next-formed false false true true old h = refl
 next-formed false false true false old h = h
 next-formed false false false c old h = h
 
-group-formed : (G B R S : List ℕ) (g : ℕ) → groupFormed (groupByte S g) ≡ true → groupFormed (newGroup G B R S g) ≡ true
+group-formed : (G B R S : List ℕ) (g : ℕ) → groupFormed (groupByte S g) ≡ true →
+    groupFormed (newGroup G B R S g) ≡ true
 unfolding newGroup groupFrom groupNext
 group-formed G B R S g f =
     let v = controlByte R g in
@@ -53,7 +55,8 @@ group-formed G B R S g f =
 
 -- ---- what the checks say, for each part
 
-module _ {G B : List ℕ} {n h c : ℕ} (g : Sound G B n) (heads : h ≡ groupCount G) (count : c ≡ blockCount B) where
+module _ {G B : List ℕ} {n h c : ℕ} (g : Sound G B n) (heads : h ≡ groupCount G)
+    (count : c ≡ blockCount B) where
   pub standing : (S : List ℕ) → length S ≡ stateLength G B → Standing B S h
   unfolding stateLength
   standing S s = record {
@@ -175,8 +178,8 @@ module _ {c : Counts} {G B K E R S D : List ℕ} (r : Ready c G B K E R S D) whe
           subst (λ (l : List ℕ). Noted l (c .blocks)) (sym by-block)
           (rw count (all-noted G B E R S H (t .sound) (t .errors) (t .size) (t .formed) in-phases))
 
-      pub all-findings : (D3 : List ℕ) → D3 ≡ packed (findingSize * c .blocks) (c .blocks) (isNoted D2) (noteIn D2) →
-          D3 ≡ newFindings G B R S
+      pub all-findings : (D3 : List ℕ) → D3 ≡ packed (findingSize * c .blocks) (c .blocks) (isNoted D2)
+          (noteIn D2) → D3 ≡ newFindings G B R S
       all-findings D3 e =
           e ∙ (λ i. packed (findingSize * count i) (count i) (isNoted (by-block i)) (noteIn (by-block i)))
           ∙ findings-new G B E R S H (t .sound) (t .errors) (t .size) (t .formed) in-phases

@@ -116,8 +116,8 @@ block-is B S h b Q P T k x q t u v w =
 
 -- input i's test, from its record Q, its type t, its word's bytes W and its word w
 pub input-is : (I R Q W : List ℕ) (h i t w : ℕ) (x : Bool) → Q ≡ take inputSize (drop (inputSize * i) I) →
-    t ≡ inputTypeIn Q → W ≡ take wordSize (drop (headSize + h + wordSize * i) R) → w ≡ le32 W 0 → x ≡ wordOk t w →
-    x ≡ inputFits h I R i
+    t ≡ inputTypeIn Q → W ≡ take wordSize (drop (headSize + h + wordSize * i) R) → w ≡ le32 W 0 →
+    x ≡ wordOk t w → x ≡ inputFits h I R i
 unfolding inputFits inputWord rowOf
 input-is I R Q W h i t w x q s u v r =
     r

@@ -23,7 +23,8 @@ use Rattle.evaluator.specs.Groups.{groupFrom, phaseOf, newGroup, phase}
 use Rattle.evaluator.specs.Packed.{hits, packed}
 use Rattle.evaluator.specs.Cycle.{wires, net, turnedFrom, ran, newBlock, wordsRead, newHead, newState, enters}
 use Rattle.evaluator.specs.Cycle.{findingFor, finding, findingCount, newFindings}
-use Rattle.evaluator.specs.Asks.{errorList, marked, groupWith, Decided, ranWith, entersWith, foundWith, slotWith}
+use Rattle.evaluator.specs.Asks.{errorList, marked, groupWith, Decided, ranWith, entersWith, foundWith}
+use Rattle.evaluator.specs.Asks.{slotWith}
 use Rattle.evaluator.specs.Asks.{noteIn, isNoted, Noted}
 use Rattle.evaluator.proofs.Agree.{agree, fixed}
 use Rattle.evaluator.proofs.Stage.{words-local}
@@ -80,7 +81,8 @@ abbrev pub decidedState : List ℕ → List ℕ → List ℕ → List ℕ → Li
 decidedState G B R S = newHead G B R S ++ drop (stateHead (groupCount G)) S
 
 module _ {n : ℕ} (G B E R S H : List ℕ) (g : Sound G B n) (marks : E ≡ errorList (groupCount G) B S)
-    (long : length S ≡ stateLength G B) (formed : stateFormed G B S ≡ true) (d : Decided E G R S (groupCount G) H) where
+    (long : length S ≡ stateLength G B) (formed : stateFormed G B S ≡ true)
+    (d : Decided E G R S (groupCount G) H) where
   abbrev h : ℕ
   h = groupCount G
 
@@ -168,7 +170,8 @@ module _ {n : ℕ} (G B E R S H : List ℕ) (g : Sound G B n) (marks : E ≡ err
   unfolding rowOf
   note-is b l = gather-at findingSize (blockCount B) (slotWith h B R H S′) (λ k _. slot-length h B R H S′ k) b l
 
-  slot-cases : (b : ℕ) → b < blockCount B → (t : Bool) → enters G B R S b ≡ t → isFinding (slotWith h B R H S′ b) ≡ t
+  slot-cases : (b : ℕ) → b < blockCount B → (t : Bool) → enters G B R S b ≡ t →
+      isFinding (slotWith h B R H S′ b) ≡ t
   unfolding slotWith
   slot-cases b l true e = rw (enters-new b l ∙ e) (ap isFinding (found-new b l) ∙ finding-told b l e)
   slot-cases b l false e = rw (enters-new b l ∙ e)
@@ -177,11 +180,13 @@ module _ {n : ℕ} (G B E R S H : List ℕ) (g : Sound G B n) (marks : E ≡ err
   unfolding isNoted
   noted-enters b l = ap isFinding (note-is b l) ∙ slot-cases b l (enters G B R S b) refl
 
-  slot-found : (b : ℕ) → b < blockCount B → enters G B R S b ≡ true → slotWith h B R H S′ b ≡ finding G B R S b
+  slot-found : (b : ℕ) → b < blockCount B → enters G B R S b ≡ true →
+      slotWith h B R H S′ b ≡ finding G B R S b
   unfolding slotWith
   slot-found b l e = rw (enters-new b l ∙ e) (found-new b l)
 
-  slot-empty : (b : ℕ) → b < blockCount B → enters G B R S b ≡ false → slotWith h B R H S′ b ≡ replicate findingSize 0
+  slot-empty : (b : ℕ) → b < blockCount B → enters G B R S b ≡ false →
+      slotWith h B R H S′ b ≡ replicate findingSize 0
   unfolding slotWith
   slot-empty b l e = rw (enters-new b l ∙ e)
 

@@ -31,7 +31,8 @@ row-at zero f k l = absurd (not-suc-le-zero l)
 row-at (suc n) f zero l = refl
 row-at (suc n) f (suc k) l = row-at n (λ k. f (suc k)) k (le-of-suc-le-suc l)
 
-pub row-is : (n : ℕ) (f : ℕ → ℕ) (s : List ℕ) → length s ≡ n → ((k : ℕ) → k < n → getD s k 0 ≡ f k) →
+pub row-is : (n : ℕ) (f : ℕ → ℕ) (s : List ℕ) → length s ≡ n →
+    ((k : ℕ) → k < n → getD s k 0 ≡ f k) →
     s ≡ gather n (λ k. f k ∷ [])
 row-is n f s e h =
     ext-getD 0 s (gather n (λ k. f k ∷ [])) (e ∙ sym (row-length n f))
@@ -89,10 +90,12 @@ module _ (h : ℕ) (B S : List ℕ) where
       each = λ g l.
           m .each g l
           ∙ ap (λ (t : Bool). onlyIf t 1)
-          (sym (more-not h B S g b (ap (λ (t : Bool). eqb (groupOf B b) g && t) n ∙ and-false (eqb (groupOf B b) g))));
+          (sym (more-not h B S g b (ap (λ (t : Bool). eqb (groupOf B b) g && t) n
+          ∙ and-false (eqb (groupOf B b) g))));
     }
 
-    pub marked-hit : isError (cell h S b) ≡ true → groupOf B b < 8 → Marked h B S (set marks (groupOf B b) 1) (b + 1)
+    pub marked-hit : isError (cell h S b) ≡ true → groupOf B b < 8 →
+        Marked h B S (set marks (groupOf B b) 1) (b + 1)
     unfolding erredIn
     marked-hit e l = record {
       long = length-set marks (groupOf B b) 1 ∙ m .long;
@@ -123,7 +126,8 @@ flag true = refl
 flag false = refl
 
 -- what the list of groups with an error says of group g
-pub error-at : (h : ℕ) (B S : List ℕ) (g : ℕ) → g < 8 → eqb (byteAt (errorList h B S) g) 1 ≡ hasError h B S g
+pub error-at : (h : ℕ) (B S : List ℕ) (g : ℕ) → g < 8 → eqb (byteAt (errorList h B S) g) 1
+    ≡ hasError h B S g
 unfolding errorList
 error-at h B S g l =
     ap (λ (k : ℕ). eqb k 1) (row-at 8 (λ g. onlyIf (hasError h B S g) 1) g l) ∙ flag (hasError h B S g)
@@ -139,11 +143,13 @@ pub record Deciding (E G R S₀ : List ℕ) (h : ℕ) (S H : List ℕ) (g : ℕ)
 
 -- one more of the bytes from a on
 next-set : (a g : ℕ) (f : ℕ → ℕ) (T : List ℕ) (v : ℕ) → a + g < length T → v ≡ f g →
-    ((j : ℕ) → j < g → getD T (a + j) 0 ≡ f j) → (j : ℕ) → j < g + 1 → getD (set T (a + g) v) (a + j) 0 ≡ f j
+    ((j : ℕ) → j < g → getD T (a + j) 0 ≡ f j) → (j : ℕ) → j < g + 1 →
+    getD (set T (a + g) v) (a + j) 0 ≡ f j
 next-set a g f T v q e k j m = go (ℕ-discrete j g)
   where
     go : Dec (j ≡ g) → getD (set T (a + g) v) (a + j) 0 ≡ f j
-    go (yes x) = ap (λ (i : ℕ). getD (set T (a + g) v) (a + i) 0) x ∙ getD-set-same T (a + g) v 0 q ∙ e ∙ ap f (sym x)
+    go (yes x) = ap (λ (i : ℕ). getD (set T (a + g) v) (a + i) 0) x ∙ getD-set-same T (a + g) v 0 q
+        ∙ e ∙ ap f (sym x)
     go (no x) = getD-set-other T (a + g) (a + j) v 0 (λ y. x (omega (arith, y))) ∙ k j (omega (arith, x))
 
 module _ (E G R S₀ : List ℕ) (h : ℕ) where
@@ -160,7 +166,8 @@ module _ (E G R S₀ : List ℕ) (h : ℕ) where
   -- group g decides; its byte of the record is v, x its mark
   module _ (S H : List ℕ) (g : ℕ) (d : Deciding E G R S₀ h S H g) (l : g < h) (few : h ≤ 8)
       (room : stateHead h ≤ length S₀) where
-    pub new-is : (c v x new : ℕ) (pend ack : Bool) → c ≡ device G → v ≡ byteAt R (headSize + g) → x ≡ byteAt E g →
+    pub new-is : (c v x new : ℕ) (pend ack : Bool) → c ≡ device G → v ≡ byteAt R (headSize + g) →
+        x ≡ byteAt E g →
         pend ≡ pends c v (eqb x 1) → ack ≡ isErrAck v → new ≡ groupNext pend ack (groupByte S g) →
         new ≡ groupWith E G R S₀ g
     unfolding groupFrom
@@ -170,7 +177,8 @@ module _ (E G R S₀ : List ℕ) (h : ℕ) where
         in
         en ∙ (λ i. groupNext (pending i) ((ea ∙ ap isErrAck ev) i) (d .left (groupsAt + g) (omega arith) i))
 
-    pub deciding-turn : (new ph : ℕ) → new ≡ groupWith E G R S₀ g → ph ≡ phaseOf G R (groupWith E G R S₀ g) g →
+    pub deciding-turn : (new ph : ℕ) → new ≡ groupWith E G R S₀ g →
+        ph ≡ phaseOf G R (groupWith E G R S₀ g) g →
         Deciding E G R S₀ h (set S (groupsAt + g) new) (set H g ph) (g + 1)
     deciding-turn new ph en ep = record {
       within = omega arith;
@@ -179,7 +187,8 @@ module _ (E G R S₀ : List ℕ) (h : ℕ) where
       left = λ j q. getD-set-other S (groupsAt + g) j new 0 (omega arith) ∙ d .left j (omega arith);
       wide = length-set H g ph ∙ d .wide;
       told = λ j m.
-          ap (λ (k : ℕ). byteAt (set H k ph) j) (sym (zero-add g)) ∙ ap (byteAt (set H (0 + g) ph)) (sym (zero-add j))
+          ap (λ (k : ℕ). byteAt (set H k ph) j) (sym (zero-add g)) ∙ ap (byteAt (set H (0 + g) ph))
+          (sym (zero-add j))
           ∙ next-set 0 g (λ g. phaseOf G R (groupWith E G R S₀ g) g) H ph (omega (arith, d .wide)) ep
           (λ k q. ap (byteAt H) (zero-add k) ∙ d .told k q) j m;
     }

@@ -76,7 +76,8 @@ module _ (F S : List ℕ) where
   fresh-not n h e = (e, rw (← e, ne-eqb n 0 h))
 
   -- the file is turned down
-  pub fresh-refused : (n : ℕ) → n ≡ first (fileTable F) → n ≢ 0 → (n ≡ freshNumber F S) × (S ≡ freshLeft F S)
+  pub fresh-refused : (n : ℕ) → n ≡ first (fileTable F) → n ≢ 0 →
+      (n ≡ freshNumber F S) × (S ≡ freshLeft F S)
   unfolding freshNumber freshTable
   fresh-refused n e h = fresh-not n h (e ∙ sym (first-broken (fileTable F) _ (λ z. h (e ∙ z))))
 

@@ -30,8 +30,8 @@ ranking-start B n =
     }
 
 module _ (B : List ℕ) (n : ℕ) (o : Ordered B n) where
-  pub ranking-turn : (K : List ℕ) (b e v : ℕ) → Ranking B n K b → b < n → e ≡ orderOf B b → v ≡ b % 256 →
-      Ranking B n (set K e v) (b + 1)
+  pub ranking-turn : (K : List ℕ) (b e v : ℕ) → Ranking B n K b → b < n → e ≡ orderOf B b →
+      v ≡ b % 256 → Ranking B n (set K e v) (b + 1)
   ranking-turn K b e v r l p q = record {
     within = omega arith;
     long = length-set K e v ∙ r .long;
@@ -53,7 +53,8 @@ module _ (B : List ℕ) (n : ℕ) (o : Ordered B n) where
 
   pub ranking-end : (K : List ℕ) → Ranking B n K n → K ≡ orderList B
   unfolding orderList
-  ranking-end K r = row-is 64 (λ e. onlyIf (ltb e (blockCount B)) (blockAt B e)) K (r .long) (λ e l. go e l (decLt e n))
+  ranking-end K r = row-is 64 (λ e. onlyIf (ltb e (blockCount B)) (blockAt B e)) K (r .long)
+      (λ e l. go e l (decLt e n))
     where
       go : (e : ℕ) → e < 64 → Dec (e < n) → byteAt K e ≡ onlyIf (ltb e (blockCount B)) (blockAt B e)
       go e l (yes k) =

@@ -14,7 +14,8 @@ use Rattle.evaluator.specs.Cycle.{wires, portShows}
 use Rattle.evaluator.specs.Asks.{Standing}
 
 -- its bytes in the state
-pub cell-is : (h : ℕ) (S : List ℕ) (b : ℕ) → take stateSize (drop (stateHead h + stateSize * b) S) ≡ cell h S b
+pub cell-is : (h : ℕ) (S : List ℕ) (b : ℕ) → take stateSize (drop (stateHead h + stateSize * b) S)
+    ≡ cell h S b
 unfolding cell slot
 cell-is h S b = refl
 
@@ -33,19 +34,21 @@ module _ {B S : List ℕ} {h : ℕ} (at : Standing B S h) where
 
 module _ (h : ℕ) (B R S : List ℕ) where
   -- an external input
-  pub external-word : (i x : ℕ) (T : List ℕ) → T ≡ take wordSize (drop (headSize + h + wordSize * i) R) → x ≡ le32 T 0 →
-      x ≡ reads (wires h B R) (cell h S) (External i)
+  pub external-word : (i x : ℕ) (T : List ℕ) → T ≡ take wordSize (drop (headSize + h + wordSize * i) R) →
+      x ≡ le32 T 0 → x ≡ reads (wires h B R) (cell h S) (External i)
   unfolding wires inputWord
   external-word i x T t e = e ∙ ap (λ (u : List ℕ). le32 u 0) t ∙ word-within (headSize + h + wordSize * i) R
 
-  pub output-word : (a q x : ℕ) → x ≡ portShows B a q (cell h S a) → x ≡ reads (wires h B R) (cell h S) (Output a q)
+  pub output-word : (a q x : ℕ) → x ≡ portShows B a q (cell h S a) →
+      x ≡ reads (wires h B R) (cell h S) (Output a q)
   unfolding wires
   output-word a q x e = e
 
 module _ (h : ℕ) (B S : List ℕ) where
   -- a port of block a; Q is the block's record, with its kind k and its parameters P, and T its bytes, as the code has
   -- them
-  pub shown-word : (a q x k : ℕ) (Q P T : List ℕ) → Q ≡ take blockSize (drop (blockSize * a) B) → k ≡ kindIn Q →
+  pub shown-word : (a q x k : ℕ) (Q P T : List ℕ) → Q ≡ take blockSize (drop (blockSize * a) B) →
+      k ≡ kindIn Q →
       P ≡ parametersIn Q → T ≡ take stateSize (drop (stateHead h + stateSize * a) S) → x ≡ shows k P q T →
       x ≡ portShows B a q (cell h S a)
   unfolding cell slot rowOf

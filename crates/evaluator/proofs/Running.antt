@@ -24,7 +24,8 @@ use Rattle.evaluator.proofs.Stage.{stage, stage-words, stage-old, stage
 use Rattle.evaluator.proofs.Buffers.{Staged, staged-start, staged-put, staged-keep, staged-end}
 
 -- the lengths of a finding's record and of a block's state
-pub found-length : (B : List ℕ) (b : ℕ) (f : ℕ → ℕ) (s : List ℕ) → length (findingFor B b f s) ≡ findingSize
+pub found-length : (B : List ℕ) (b : ℕ) (f : ℕ → ℕ) (s : List ℕ) →
+    length (findingFor B b f s) ≡ findingSize
 unfolding findingFor
 found-length B b f s = finding-length b (groupOf B b) (kindOf B b) (firstOf B b f) (secondOf B b f) s
 
@@ -62,7 +63,8 @@ zeros-slot w m b l =
     inside : (j : ℕ) → j < w → 0 + w * b + j < w * m
     inside j q = omega (arith, apart w b m l)
 
-pub turned-length : (B R : List ℕ) (ph b : ℕ) (s : List ℕ) (f : ℕ → ℕ) → length (turnedFrom B R ph b s f) ≡ stateSize
+pub turned-length : (B R : List ℕ) (ph b : ℕ) (s : List ℕ) (f : ℕ → ℕ) →
+    length (turnedFrom B R ph b s f) ≡ stateSize
 unfolding turnedFrom
 turned-length B R ph b s f = step-length (kindOf B b) (parametersOf B b) ph _ _ _ _ s
 
@@ -87,7 +89,8 @@ module _ (h : ℕ) (B R H K S₀ D₀ : List ℕ) (n : ℕ) (r : Running h B R H
   pub ran-length : (b : ℕ) → b < n → length (ranWith h B R H S₀ b) ≡ stateSize
   unfolding ranWith ran net
   ran-length b l =
-      ap length (fixed (net h B R (byteAt H)) (orderOf B) (cell h S₀) (blockCount B) b (rw (← r .count) (r .below b l)))
+      ap length (fixed (net h B R (byteAt H)) (orderOf B) (cell h S₀) (blockCount B) b
+      (rw (← r .count) (r .below b l)))
       ∙ turned-length B R (byteAt H (groupOf B b)) b _ _
 
   pub held-start : Held h B R H S₀ n S₀ D₀ false 0
@@ -96,7 +99,8 @@ module _ (h : ℕ) (B R H K S₀ D₀ : List ℕ) (n : ℕ) (r : Running h B R H
     head = refl;
     cells =
         staged-start (stateHead h) stateSize n (orderOf B) (cell h S₀) (ranWith h B R H S₀) S₀
-        (r .standing .state ∙ ap (λ (k : ℕ). stateHead h + stateSize * k) (sym (r .count))) (λ b l. cell-slot S₀ b);
+        (r .standing .state ∙ ap (λ (k : ℕ). stateHead h + stateSize * k) (sym (r .count)))
+        (λ b l. cell-slot S₀ b);
     notes =
         staged-start 0 findingSize n (orderOf B) empty (slotWith h B R H S₀) D₀
         (ap length (r .clean) ∙ length-replicate {A = ℕ} (findingSize * n) 0 ∙ sym (zero-add (findingSize * n)))
@@ -190,7 +194,8 @@ module _ (h : ℕ) (B R H K S₀ D₀ : List ℕ) (n : ℕ) (r : Running h B R H
         put : S′ ≡ sets S (stateHead h + stateSize * b) (ranWith h B R H S₀ b)
         put = p ∙ ap (sets S (stateHead h + stateSize * b)) turned-ran
 
-        missed : next ≡ false → (a : ℕ) → a < n → orderOf B a < e + 1 → Dec (a ≡ b) → entersWith h B R H S₀ a ≡ false
+        missed : next ≡ false → (a : ℕ) → a < n → orderOf B a < e + 1 → Dec (a ≡ b) →
+            entersWith h B R H S₀ a ≡ false
         missed z a m g (yes d) =
             subst (λ (c : ℕ). entersWith h B R H S₀ c ≡ false) (sym d) (sym entering-ran ∙ none z .1)
         missed z a m g (no d) = let other = others a m d in k .none (none z .0) a m (omega (arith, other))
@@ -202,7 +207,8 @@ module _ (h : ℕ) (B R H K S₀ D₀ : List ℕ) (n : ℕ) (r : Running h B R H
       staged-end (stateHead h) stateSize n (orderOf B) (cell h S₀) (ranWith h B R H S₀) S (k .cells) (r .below)
       ∙ ap (λ (t : List ℕ). t ++ gather n (ranWith h B R H S₀)) (k .head)
 
-  pub held-findings : (S D : List ℕ) (some : Bool) → Held h B R H S₀ n S D some n → D ≡ gather n (slotWith h B R H S₀)
+  pub held-findings : (S D : List ℕ) (some : Bool) → Held h B R H S₀ n S D some n →
+      D ≡ gather n (slotWith h B R H S₀)
   held-findings S D some k =
       staged-end 0 findingSize n (orderOf B) empty (slotWith h B R H S₀) D (k .notes) (r .below)
 

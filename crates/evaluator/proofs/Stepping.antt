@@ -32,7 +32,8 @@ module _ (w : ℕ) (hit : ℕ → Bool) (f : ℕ → List ℕ) (long : (b : ℕ)
   entries-few zero = omega arith
   entries-few (suc n) = go (entries-few n) (hit n)
     where
-      go : length (entries n hit f) ≤ w * n → (t : Bool) → length (entries n hit f ++ cond t (f n) []) ≤ w * suc n
+      go : length (entries n hit f) ≤ w * n → (t : Bool) →
+          length (entries n hit f ++ cond t (f n) []) ≤ w * suc n
       go l true = omega (arith, l, length-append (entries n hit f) (f n), long n, mul-suc w n)
       go l false = omega (arith, l, length-append (entries n hit f) [], mul-suc w n)
 

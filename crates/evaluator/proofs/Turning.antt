@@ -38,7 +38,8 @@ lent-cell h S b =
     let at = stateHead h + stateSize * b in
     ap (λ (k : ℕ). take k (drop at S)) (add-sub-cancel-left at stateSize)
 
-module _ (h : ℕ) (B R : List ℕ) (ph : ℕ) (S : List ℕ) (b : ℕ) {new : List ℕ} (e : new ≡ turned h B R ph S b)
+module _ (h : ℕ) (B R : List ℕ) (ph : ℕ) (S : List ℕ) (b : ℕ) {new : List ℕ}
+    (e : new ≡ turned h B R ph S b)
     (fits : stateHead h + stateSize * b + stateSize ≤ length S) where
   long : length (turned h B R ph S b) ≡ stateSize
   unfolding turned
@@ -74,7 +75,8 @@ module _ (h : ℕ) (B R : List ℕ) (ph : ℕ) (S : List ℕ) (b : ℕ) (D : Lis
   noted-not e = rw e
 
   pub noted-is : (f : List ℕ) → entering h B R ph S b ≡ true →
-      f ≡ findingFor B b (wordsAt h B R S b) (turned h B R ph S b) → sets D (findingSize * b) f ≡ noted h B R ph S b D
+      f ≡ findingFor B b (wordsAt h B R S b) (turned h B R ph S b) →
+      sets D (findingSize * b) f ≡ noted h B R ph S b D
   unfolding noted
   noted-is f e q = rw e (ap (sets D (findingSize * b)) q)
 
@@ -95,7 +97,8 @@ module _ {h : ℕ} {B R S Q : List ℕ} {b ph : ℕ} (t : Turning h B R S Q b ph
         (secondRead (kindIn q) (parametersIn q) (wordsOf h B R S q)) (cell h S b)) (t .here)
         ∙ sym (reads _ _ ph (isErrAck (controlByte R (groupOf B b))) (elapsed R) _ _ (cell h S b) (t .asks))
 
-    pub found-read : (s : List ℕ) → findingOf b (groupIn Q) (kindIn Q) x y s ≡ findingFor B b (wordsAt h B R S b) s
+    pub found-read : (s : List ℕ) → findingOf b (groupIn Q) (kindIn Q) x y s
+        ≡ findingFor B b (wordsAt h B R S b) s
     unfolding findingFor wires
     found-read s =
         (λ i. findingOf b (groupIn Q) (kindIn Q) (ex i) (ey i) s)

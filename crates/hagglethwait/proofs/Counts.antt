@@ -33,7 +33,8 @@ hits-most zero hit = omega arith
 hits-most (suc n) hit = omega (arith, hits-most n hit, one-most (hit n))
 
 module _ (F R : List ℕ) (L : Lent) where
-  few-left : (n k : ℕ) → refusal F R L ≡ n → Findings k ≡ leaves n (projectOf F) R L .answer → k ≤ mostBlocks
+  few-left : (n k : ℕ) → refusal F R L ≡ n → Findings k ≡ leaves n (projectOf F) R L .answer →
+      k ≤ mostBlocks
   unfolding findingCount
   few-left zero k z e =
       let P = projectOf F in

@@ -54,6 +54,7 @@ meant v l =
     }
 
 -- the parameters of a kind that the device has
-pub has-parameters : (d k : ℕ) (P : List ℕ) → parametersOk d k P ≡ true → parametersFit (familyOf k) k P ≡ true
+pub has-parameters : (d k : ℕ) (P : List ℕ) → parametersOk d k P ≡ true →
+    parametersFit (familyOf k) k P ≡ true
 unfolding parametersOk
 has-parameters d k P h = both-right (available d k) (parametersFit (familyOf k) k P) h

@@ -1,4 +1,5 @@
--- Sign and magnitude against ℤ: what the code computes on magnitudes is the library's sum, product, order and quotient,
+-- Sign and magnitude against ℤ: what the code computes on magnitudes is the library's sum, product, order and
+-- quotient,
 -- and the definitions of `specs/` at a sign and a magnitude. Every law is by cases on the signs. Assumes nothing.
 use mathlib.Core.Path.{_≡_, refl, sym, ap, _∙_, subst⁻¹}
 use mathlib.Core.Bool.{Bool, true, false, not, _&&_}
@@ -9,7 +10,8 @@ use lib.Pow.{pow-pos, pow-add}
 use native.Mathlib.Omega.{arith}
 use borrow.Author.Tests.{lt-ltb, le-ltb, le-leb, lt-leb}
 use lib.Dec.{ltb, leb, leb·suc-suc, eqb·suc-zero, lit<, lit≤}
-use lib.IntN.{ℤ, pos, negsuc, negℤ, natAbs, subℕ, _+ℤ_, _*ℤ_, +ℤ-comm, negℤ-+ℤ, negℤ-negℤ, zero-*ℤ}
+use lib.IntN.{ℤ, pos, negsuc, negℤ, natAbs, subℕ, _+ℤ_, _*ℤ_, +ℤ-comm, negℤ-+ℤ, negℤ-negℤ}
+use lib.IntN.{zero-*ℤ}
 use lib.Signed.{ltZ, leZ}
 use Rattle.numbers.specs.Types.{sgn, isNeg, signed, zOf, isSigned, under, over, lo, hi, value, inside, wordOf}
 use Rattle.numbers.specs.Results.{differ, settled, away, roundedDiv, quotient}
@@ -142,7 +144,8 @@ pub settles-below : (t : NumType) (m : ℕ) → under t < m → Below ≡ settle
 unfolding settled
 settles-below t m h = rw (neg-less m (under t), lt-ltb (under t) m h)
 
-pub settles-neg : (t : NumType) (m : ℕ) → m ≤ under t → Value ((4294967296 - m) % 4294967296) ≡ settled t (negℤ (pos m))
+pub settles-neg : (t : NumType) (m : ℕ) → m ≤ under t → Value ((4294967296 - m) % 4294967296)
+    ≡ settled t (negℤ (pos m))
 unfolding settled
 settles-neg t m h =
     rw (neg-less m (under t), le-ltb (under t) m h, not-less (over t) m)
@@ -180,11 +183,13 @@ within-pos : (t : NumType) (z : ℤ) → isNeg z ≡ false → leb (natAbs z) (o
 within-pos t (pos n) e = rw (neg-le-pos (under t) n)
 within-pos t (negsuc n) e = let x : _≡_ {A = ℕ} 0 1 = cc in absurd (omega arith)
 
-pub inside-neg : (t : NumType) (w : ℕ) → isNeg (value t w) ≡ true → leb (natAbs (value t w)) (under t) ≡ inside t w
+pub inside-neg : (t : NumType) (w : ℕ) → isNeg (value t w) ≡ true →
+    leb (natAbs (value t w)) (under t) ≡ inside t w
 unfolding inside
 inside-neg t w e = within-neg t (value t w) e
 
-pub inside-pos : (t : NumType) (w : ℕ) → isNeg (value t w) ≡ false → leb (natAbs (value t w)) (over t) ≡ inside t w
+pub inside-pos : (t : NumType) (w : ℕ) → isNeg (value t w) ≡ false →
+    leb (natAbs (value t w)) (over t) ≡ inside t w
 unfolding inside
 inside-pos t w e = within-pos t (value t w) e
 
@@ -221,6 +226,7 @@ pub rounded-up : (r : Rounding) (n : Bool) (m d : ℕ) → away r n (m % d) d �
 unfolding roundedDiv
 rounded-up r n m d e = rw e
 
-pub rounded-cut : (r : Rounding) (n : Bool) (m d : ℕ) → away r n (m % d) d ≡ false → sgn n (m / d) ≡ roundedDiv r n m d
+pub rounded-cut : (r : Rounding) (n : Bool) (m d : ℕ) → away r n (m % d) d ≡ false →
+    sgn n (m / d) ≡ roundedDiv r n m d
 unfolding roundedDiv
 rounded-cut r n m d e = rw (e, add-zero (m / d))

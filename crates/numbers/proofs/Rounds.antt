@@ -102,7 +102,10 @@ ceil-not-below (negsuc m) (suc d) h =
 pub ceil-least : (x z : ℤ) (d : ℕ) → 0 < d → x ≤ℤ (z *ℤ pos d) → quotient Ceil x (pos d) ≤ℤ z
 ceil-least x z zero h t = absurd (not-suc-le-zero h)
 ceil-least (pos m) (pos k) (suc d) h t =
-    record { le = rw (ceil-pos m d) (le→leb (up m (suc d)) k (up-least m (suc d) k h (leb→le m (k * suc d) (t .le)))) }
+    record {
+      le = rw (ceil-pos m d) (le→leb (up m (suc d)) k
+          (up-least m (suc d) k h (leb→le m (k * suc d) (t .le))));
+    }
 ceil-least (pos m) (negsuc k) (suc d) h t =
     absurd (subst (λ (n : ℕ). pos m ≤ℤ negℤ (pos n)) (mul-suc (suc k) d ∙ add-suc (suc k * d) k) t .le)
 ceil-least (negsuc m) (pos k) (suc d) h t = record { le = rw (ceil-neg m d, neg-le-pos (suc m / suc d) k) tt }

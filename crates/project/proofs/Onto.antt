@@ -32,14 +32,16 @@ squeeze-lt : {m v x s : ℕ} → Squeezed v x s → x < suc m → v < suc m → 
 squeeze-lt (down l) a b h = omega arith
 squeeze-lt (same l) a b h = omega (arith, h)
 
-squeeze-inj : {v x y s t : ℕ} → Squeezed v x s → Squeezed v y t → (x ≡ v → ⊥) → (y ≡ v → ⊥) → s ≡ t → x ≡ y
+squeeze-inj : {v x y s t : ℕ} → Squeezed v x s → Squeezed v y t → (x ≡ v → ⊥) →
+    (y ≡ v → ⊥) → s ≡ t → x ≡ y
 squeeze-inj (down a) (down b) h k e = omega arith
 squeeze-inj (down a) (same b) h k e = absurd (k (omega arith))
 squeeze-inj (same a) (down b) h k e = absurd (h (omega arith))
 squeeze-inj (same a) (same b) h k e = e
 
 -- taken out of f's values a number that none of them is
-module _ {f : ℕ → ℕ} {n m : ℕ} (v : ℕ) (i : Apart f n (suc m)) (l : v < suc m) (h : (a : ℕ) → a < n → f a ≡ v → ⊥) where
+module _ {f : ℕ → ℕ} {n m : ℕ} (v : ℕ) (i : Apart f n (suc m)) (l : v < suc m)
+    (h : (a : ℕ) → a < n → f a ≡ v → ⊥) where
   without : Apart (λ (a : ℕ). squeeze v (f a)) n m
   without = record {
     below = λ a q. squeeze-lt (squeezed v (f a)) (i .below a q) l (h a q);
@@ -77,7 +79,8 @@ module _ {f : ℕ → ℕ} {n : ℕ} (i : Apart f n n) (e : ℕ) (l : e < n) whe
       go (yes q) = q
       go (no q) =
           let w = found p n in
-          let all : (a : ℕ) → a < n → p a ≡ true = λ a r. w .each a (omega arith) (omega (arith, q, w .within)) in
+          let all : (a : ℕ) → a < n → p a ≡ true =
+          λ a r. w .each a (omega arith) (omega (arith, q, w .within)) in
           absurd (absent f n e i l (λ a r. eqb-false (f a) e (not-true (eqb (f a) e) (all a r))))
 
   pub place-is : f (placeOf f n e) ≡ e

@@ -19,7 +19,8 @@ within-small : (most n : ℕ) → n < 10 → digitsWithin (suc most) n ≡ digit
 unfolding digitsWithin
 within-small most n h = rw (lt-ltb n 10 h)
 
-within-more : (most n : ℕ) → 10 ≤ n → digitsWithin (suc most) n ≡ digitsWithin most (n / 10) ++ (digit (n % 10) ∷ [])
+within-more : (most n : ℕ) → 10 ≤ n → digitsWithin (suc most) n ≡ digitsWithin most (n / 10)
+    ++ (digit (n % 10) ∷ [])
 unfolding digitsWithin
 within-more most n h = rw (le-ltb n 10 h)
 
@@ -46,7 +47,8 @@ decimal-more n h =
     (same-at n (suc (n / 10)) (n / 10) (decLt (n / 10) 10) (omega arith) (omega arith))
 
 -- what holds of one digit, and of a number where it holds of its tenth, holds of every number
-module _ (P : ℕ → Type 0) (small : (n : ℕ) → n < 10 → P n) (more : (n : ℕ) → 10 ≤ n → P (n / 10) → P n) where
+module _ (P : ℕ → Type 0) (small : (n : ℕ) → n < 10 → P n)
+    (more : (n : ℕ) → 10 ≤ n → P (n / 10) → P n) where
   from-tenth : (fuel n : ℕ) → Dec (n < 10) → n < fuel → P n
   from-tenth zero n d h = absurd (omega arith)
   from-tenth (suc fuel) n (yes l) h = small n l
@@ -99,7 +101,8 @@ read-last v c (b ∷ cs) = read-last (10 * v + (b - 48)) c cs
 -- the digits of a number spell the number
 pub decimal-value : (n : ℕ) → valueOf (decimal n) ≡ n
 decimal-value =
-    by-tenth (λ (n : ℕ). valueOf (decimal n) ≡ n) (λ n h. ap valueOf (decimal-small n h) ∙ omega arith) more-read
+    by-tenth (λ (n : ℕ). valueOf (decimal n) ≡ n) (λ n h. ap valueOf (decimal-small n h) ∙ omega arith)
+    more-read
   where
     more-read : (n : ℕ) → 10 ≤ n → valueOf (decimal (n / 10)) ≡ n / 10 → valueOf (decimal n) ≡ n
     more-read n h e = ap valueOf (decimal-more n h) ∙ read-last 0 (digit (n % 10)) (decimal (n / 10)) ∙ omega arith
@@ -111,7 +114,8 @@ digits-last c Digits.none p q = Digits.more p q Digits.none
 digits-last c (Digits.more a b d) p q = Digits.more a b (digits-last c d p q)
 
 -- a digit behind a numeral that is not `0` alone
-numeral-last : {cs : List ℕ} (c : ℕ) → Numeral cs → 1 ≤ valueOf cs → 48 ≤ c → c ≤ 57 → Numeral (cs ++ (c ∷ []))
+numeral-last : {cs : List ℕ} (c : ℕ) → Numeral cs → 1 ≤ valueOf cs → 48 ≤ c → c ≤ 57 →
+    Numeral (cs ++ (c ∷ []))
 numeral-last c Numeral.nought v p q = absurd (omega arith)
 numeral-last c (Numeral.number a b d) v p q = Numeral.number a b (digits-last c d p q)
 

@@ -26,7 +26,8 @@ finding-short cycle block text diagnosis ta x tb y c b t d p q =
       signed-eleven (value tb y) (value-small tb y q),
     ))
 
-pub end-short : (cycles findings : ℕ) → cycles < 2 ^ 32 → findings < 2 ^ 32 → length (endLine cycles findings) ≤ 96
+pub end-short : (cycles findings : ℕ) → cycles < 2 ^ 32 → findings < 2 ^ 32 →
+    length (endLine cycles findings) ≤ 96
 unfolding endLine
 end-short cycles findings c f = simp length-append (omega (arith, decimal-ten cycles c, decimal-ten findings f))
 
@@ -35,11 +36,12 @@ unfolding refusedLine
 refused-short number n = simp length-append (omega (arith, decimal-ten number n))
 
 -- a buffer that is long enough holds the line at its front
-pub line-front : (line buffer : List ℕ) → length line ≤ length buffer → take (length line) (sets buffer 0 line) ≡ line
+pub line-front : (line buffer : List ℕ) → length line ≤ length buffer →
+    take (length line) (sets buffer 0 line) ≡ line
 line-front line buffer h = take-sets line buffer (length line) refl h
 
 -- so whoever lends a buffer of 96 bytes finds the line whole in the bytes that the answer counts
-pub printed-whole : {line before after : List ℕ} {size : ℕ} → Printed line before after size → 96 ≤ length before →
-    take size after ≡ line
+pub printed-whole : {line before after : List ℕ} {size : ℕ} → Printed line before after size →
+    96 ≤ length before → take size after ≡ line
 printed-whole {line} {before} {after} {size} p h =
     rw (p .bytes, p .whole) (line-front line before (omega (arith, p .whole, p .short)))

@@ -12,8 +12,8 @@ use Rattle.report.proofs.Decimal.{decimal-small, decimal-more, decimal-
 -- ---- pieces
 
 -- a character, and the text behind it
-pub put-first : {text l m n : List ℕ} {at next : ℕ} (a : ℕ) → m ≡ set l at a → Put text m (at + 1) n next →
-    Put (a ∷ text) l at n next
+pub put-first : {text l m n : List ℕ} {at next : ℕ} (a : ℕ) → m ≡ set l at a →
+    Put text m (at + 1) n next → Put (a ∷ text) l at n next
 put-first {text} {l} {m} {n} {at} a e p = record {
   bytes =
       p .bytes
@@ -23,13 +23,15 @@ put-first {text} {l} {m} {n} {at} a e p = record {
 }
 
 -- two characters, and the text behind them
-pub put-second : {text l m n o : List ℕ} {at next : ℕ} (a b : ℕ) → m ≡ set l at a → n ≡ set m (at + 1) b →
-    Put text n (at + 2) o next → Put (a ∷ b ∷ text) l at o next
-put-second {at = at} a b e f p = let two : at + 1 + 1 ≡ at + 2 = omega arith in put-first a e (put-first b f (rw two p))
+pub put-second : {text l m n o : List ℕ} {at next : ℕ} (a b : ℕ) → m ≡ set l at a →
+    n ≡ set m (at + 1) b → Put text n (at + 2) o next → Put (a ∷ b ∷ text) l at o next
+put-second {at = at} a b e f p = let two : at + 1 + 1 ≡ at + 2 =
+    omega arith in put-first a e (put-first b f (rw two p))
 
 -- a text, and the text behind it
 infixl 5 _then_
-pub _then_ : {s t l m n : List ℕ} {at mid next : ℕ} → Put s l at m mid → Put t m mid n next → Put (s ++ t) l at n next
+pub _then_ : {s t l m n : List ℕ} {at mid next : ℕ} → Put s l at m mid → Put t m mid n next →
+    Put (s ++ t) l at n next
 _then_ {s} {t} {l} {m} {n} {at} p q = record {
   bytes = q .bytes ∙ rw (p .bytes, p .place) (sets-append s t l at);
   place = omega (arith, p .place, q .place, length-append s t);
@@ -44,7 +46,8 @@ pub put-last : {l n : List ℕ} {at : ℕ} (a : ℕ) → n ≡ set l at a → Pu
 put-last a e = record { bytes = e; place = refl }
 
 -- a text at the front of a buffer is a line
-pub put-printed : {line l n : List ℕ} {size : ℕ} → length line ≤ 96 → Put line l 0 n size → Printed line l n size
+pub put-printed : {line l n : List ℕ} {size : ℕ} → length line ≤ 96 → Put line l 0 n size →
+    Printed line l n size
 put-printed {line} h p = record {
   bytes = p .bytes;
   whole = p .place ∙ zero-add (length line);
@@ -98,7 +101,8 @@ module _ {l out : List ℕ} {at n to rest : ℕ} (b : Behind l at n out to rest)
       }
 
   -- the first digit
-  pub behind-all : {out' : List ℕ} → rest < 10 → out' ≡ set out at (digit rest) → out' ≡ sets l at (decimal n)
+  pub behind-all : {out' : List ℕ} → rest < 10 → out' ≡ set out at (digit rest) →
+      out' ≡ sets l at (decimal n)
   behind-all h e =
       let d = digit rest in
       let next : to ≡ suc at = omega (arith, b .place, decimal-one rest h) in

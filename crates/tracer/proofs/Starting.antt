@@ -59,8 +59,8 @@ module _ (F S : List ℕ) where
 pub taken-of : (F : List ℕ) → first (fileTable F) ≡ 0 → Taken (projectOf F)
 taken-of F z = taken F (accepted F (number-zero F z))
 
-pub ordered-of : (F : List ℕ) (c : Counts) (B : List ℕ) → first (fileTable F) ≡ 0 → c ≡ countsIn (projectOf F) →
-    B ≡ projectOf F .blocks → Ordered B (c .blocks)
+pub ordered-of : (F : List ℕ) (c : Counts) (B : List ℕ) → first (fileTable F) ≡ 0 →
+    c ≡ countsIn (projectOf F) → B ≡ projectOf F .blocks → Ordered B (c .blocks)
 ordered-of F c B z e b =
     let t = taken-of F z in
     rw b (ordered (t .sound) (groups-counted e t) (blocks-counted e t))

@@ -59,8 +59,8 @@ begins F n z e s =
     }
 
 -- after the last
-pub ran : {F : List ℕ} {n k t : ℕ} {S : List ℕ} → Here F n k t S → n ≤ k → {x y : ℕ} → x ≡ k % 4294967296 →
-    y ≡ t → (Ran x y ≡ runEnd F) × (S ≡ stateAfter F)
+pub ran : {F : List ℕ} {n k t : ℕ} {S : List ℕ} → Here F n k t S → n ≤ k → {x y : ℕ} →
+    x ≡ k % 4294967296 → y ≡ t → (Ran x y ≡ runEnd F) × (S ≡ stateAfter F)
 unfolding ended lastState run recordsFrom
 ran {F} {n} {k} h l f g = (
   ap₂ Ran f (g ∙ h .count) ∙ sym (ap (ended k (h .found)) none) ∙ h .ends,
@@ -97,7 +97,8 @@ module _ {F : List ℕ} {n k t : ℕ} {S : List ℕ} (z : first (fileTable F) �
   made = stepped F (recordOf F k) (h .lent) z (h .sizes) (h .formed)
 
   -- by a step over bodies and a record that are the file's
-  pub turned : {G I B R : List ℕ} → G ≡ projectOf F .groups → I ≡ projectOf F .inputs → B ≡ projectOf F .blocks →
+  pub turned : {G I B R : List ℕ} → G ≡ projectOf F .groups → I ≡ projectOf F .inputs →
+      B ≡ projectOf F .blocks →
       R ≡ recordOf F k → {a : Answer} {S1 D1 : List ℕ} (D : List ℕ) → a ≡ stepAnswer G I B R S →
       S1 ≡ stepState G I B R S → D1 ≡ stepFindings G I B R S D → Turned (call F k (h .lent)) a S1 D1
   unfolding stepAnswer stepFindings
@@ -105,7 +106,8 @@ module _ {F : List ℕ} {n k t : ℕ} {S : List ℕ} (z : first (fileTable F) �
     answer = e ∙ (λ j. stepAnswer (g j) (i j) (b j) (r j) (h .state j)) ∙ sym (made .answer);
     state = s ∙ (λ j. stepState (g j) (i j) (b j) (r j) (h .state j)) ∙ sym (made .state);
     findings = λ y.
-        d ∙ found-some (recordOk G I R) (findingCount G B R S) (sym y ∙ e) (newFindings G B R S) D (h .lent .findings)
+        d ∙ found-some (recordOk G I R) (findingCount G B R S) (sym y ∙ e) (newFindings G B R S) D
+        (h .lent .findings)
         ∙ (λ j. stepFindings (g j) (i j) (b j) (r j) (h .state j) (h .lent .findings)) ∙ sym (made .findings);
   }
 

@@ -90,7 +90,8 @@ module _ (rs : List Row) where
 
 -- ---- where no row has the number 0
 
-pub number-some : (rs : List Row) → numbered rs ≡ true → (k : ℕ) → keptAt rs k ≡ false → 0 < rowAt rs k .number
+pub number-some : (rs : List Row) → numbered rs ≡ true → (k : ℕ) → keptAt rs k ≡ false →
+    0 < rowAt rs k .number
 unfolding numbered
 number-some [] s k f = absurd (true≢false f)
 number-some (r ∷ rs) s zero f = ltb-true 0 (r .number) (both-left (ltb 0 (r .number)) (numbered rs) s)

@@ -14,4 +14,5 @@ counts-in-spec = tie.close (tie.spec
     let b = o .before in
     let n = b .before in
     c .counts-of .ensures
-    ∙ ap countsIn (bodies-are _ (n .before .body .ensures) (n .body2 .ensures) (b .body3 .ensures) (o .body4 .ensures))))
+    ∙ ap countsIn (bodies-are _ (n .before .body .ensures) (n .body2 .ensures) (b .body3 .ensures)
+    (o .body4 .ensures))))

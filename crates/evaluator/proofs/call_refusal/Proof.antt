@@ -113,14 +113,16 @@ returns-4 c =
     let f = c .before .before in
     let d = f .before .before in
     let k = d .before .before in
-    sym (rows-12 (project-of k) _ _ (sized d) (formed f) (bad (c .before .record-ok .ensures) (c .if4 .taken))) ∙ rows k
+    sym (rows-12 (project-of k) _ _ (sized d) (formed f) (bad (c .before .record-ok .ensures) (c .if4 .taken)))
+    ∙ rows k
 
 returns-5 : tie.Need-returns-5
 returns-5 c =
     let f = c .before .before in
     let d = f .before .before in
     let k = d .before .before in
-    sym (rows-none (project-of k) _ _ (sized d) (formed f) (ok (c .before .record-ok .ensures) (c .if4 .left))) ∙ rows k
+    sym (rows-none (project-of k) _ _ (sized d) (formed f) (ok (c .before .record-ok .ensures) (c .if4 .left)))
+    ∙ rows k
 
 pub call-refusal-spec : {M : Type 1} → statement M
 call-refusal-spec = tie.close (tie.spec

@@ -22,8 +22,13 @@ module _ {L M : Left} (e : L ≡ M) where
   all-four : (M .answer ≡ L .answer)
       × ((M .lent .state ≡ L .lent .state)
       × ((M .lent .outputs ≡ L .lent .outputs) × (M .lent .findings ≡ L .lent .findings)))
-  all-four =
-      (λ i. sym e i .answer, (λ i. sym e i .lent .state, (λ i. sym e i .lent .outputs, λ i. sym e i .lent .findings)))
+  all-four = (
+    λ i. sym e i .answer,
+    (
+      λ i. sym e i .lent .state,
+      (λ i. sym e i .lent .outputs, λ i. sym e i .lent .findings),
+    ),
+  )
 
 -- turned down
 returns : tie.Need-returns
@@ -39,7 +44,14 @@ returns c =
     in
     let r = t .turned-down .ensures in (
       r .0 ∙ d .0,
-      ((λ i. r .1 i .state) ∙ d .1 .0, ((λ i. r .1 i .outputs) ∙ d .1 .1 .0, (λ i. r .1 i .findings) ∙ d .1 .1 .1)),
+      (
+        (λ i. r .1 i .state) ∙ d .1 .0,
+        (
+          (λ i. r .1 i .outputs) ∙ d .1 .1 .0,
+          (λ i. r .1 i .findings)
+              ∙ d .1 .1 .1,
+        ),
+      ),
     )
 
 -- no test failed

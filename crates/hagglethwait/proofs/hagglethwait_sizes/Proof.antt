@@ -10,7 +10,8 @@ use Rattle.hagglethwait.proofs.hagglethwait_sizes.Tie as tie
 -- equal sizes say the same
 same : (s o d : ℕ) {y z : Sizes} → y ≡ z →
     (sizesNumber y ≡ sizesNumber z)
-    × ((stateSaid y s ≡ stateSaid z s) × ((outputsSaid y o ≡ outputsSaid z o) × (findingsSaid y d ≡ findingsSaid z d)))
+    × ((stateSaid y s ≡ stateSaid z s) × ((outputsSaid y o ≡ outputsSaid z o)
+    × (findingsSaid y d ≡ findingsSaid z d)))
 same s o d e = (
   ap sizesNumber e,
   (

@@ -1,4 +1,5 @@
--- `numbers::divide` is the quotient in ℤ, rounded: one law for both signs. The remainder is below the divisor, and the
+-- `numbers::divide` is the quotient in ℤ, rounded: one law for both signs. The remainder is below the divisor, and
+-- the
 -- quotient of two magnitudes is at most the first, so that one more fits. Assumes nothing.
 use mathlib.Core.Path.{sym, _∙_}
 use native.Mathlib.Nat.{mod-lt, div-le-self}

@@ -2,7 +2,8 @@
 -- Assumes nothing.
 use native.Mathlib.Omega.{arith}
 use borrow.Author.Needs.{needs}
-use Rattle.numbers.proofs.Laws.{under-small, over-small, settles-below, settles-neg, settles-above, settles-pos}
+use Rattle.numbers.proofs.Laws.{under-small, over-small, settles-below, settles-neg, settles-above}
+use Rattle.numbers.proofs.Laws.{settles-pos}
 use Rattle.numbers.proofs.settle.Statement.{statement}
 use Rattle.numbers.proofs.settle.Tie as tie
 

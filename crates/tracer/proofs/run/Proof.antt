@@ -4,8 +4,10 @@ use Rattle.wire.proofs.Usual.{_≡_, refl, sym, ap, _∙_, _-_, _≤_, _<_, ari
 use Rattle.casefile.specs.Bodies.{projectOf, recordOf}
 use Rattle.evaluator.specs.State.{stateLength}
 use Rattle.evaluator.proofs.FreshFormed.{fresh-length}
-use Rattle.tracer.proofs.Starting.{standing-of, grouped-of, listed-of, begun-of, size-some, count-is, record-is}
-use Rattle.tracer.proofs.Turning.{Here, formed-here, begins, ran, call, later, Turned, turned, unrolled, goes-on}
+use Rattle.tracer.proofs.Starting.{standing-of, grouped-of, listed-of, begun-of, size-some, count-is}
+use Rattle.tracer.proofs.Starting.{record-is}
+use Rattle.tracer.proofs.Turning.{Here, formed-here, begins, ran, call, later, Turned, turned, unrolled}
+use Rattle.tracer.proofs.Turning.{goes-on}
 use Rattle.tracer.proofs.Turning.{stops}
 use Rattle.tracer.proofs.run.Statement.{statement}
 use Rattle.tracer.proofs.run.Tie as tie
@@ -19,7 +21,8 @@ Inv-loop file c groups inputs blocks records order state₀ findings₀ n total�
     × Here file n done total state
 
 abbrev μ-loop : tie.MeasureT-loop
-μ-loop file c groups inputs blocks records order state₀ findings₀ n total₀ done₀ state findings total done = n - done
+μ-loop file c groups inputs blocks records order state₀ findings₀ n total₀ done₀ state findings total done =
+    n - done
 
 abbrev start-of : tie.At-loop Inv-loop μ-loop → tie.Start Inv-loop μ-loop
 start-of c = c .before .before .before .before .before .before .before .before .before .before

@@ -40,7 +40,11 @@ trace-spec = tie.close (tie.spec
     (λ c κs. search needs) (λ c κs. search needs) (λ c κs. search needs) (λ c κs. search needs)
     (λ c κs. search needs) (λ c κs. search needs) (λ c κs. search needs) (λ c. search needs) (λ c. search needs)
     (λ c. search needs) (λ c. search needs) (λ c. search needs)
-    (λ c. sym (length-take-le _ _ (omega (arith, c .before .least2 .ensures .0, c .before .before .least .ensures .0))))
+    (λ c. sym (length-take-le _ _ (omega (
+      arith,
+      c .before .least2 .ensures .0,
+      c .before .before .least .ensures .0,
+    ))))
     (λ c. search needs)
     (λ c. sym (length-take-le _ _ (omega (arith, c .before .before .before .least .ensures .0))))
     start-requires (λ c κs. search needs) (λ c. search needs))

@@ -24,7 +24,8 @@ test c =
     let h = c .before .before .before in
     let a = h .before .before .before .before .args in
     c .channel-rule .ensures
-    ∙ (λ i. channelRule (h .before .block-record .ensures i) (h .loop .p) (markOf (now (a .marks)) (a .b) (h .loop .p)))
+    ∙ (λ i. channelRule (h .before .block-record .ensures i) (h .loop .p)
+    (markOf (now (a .marks)) (a .b) (h .loop .p)))
 
 pub first-bad-channel-spec : {M : Type 1} → statement M
 first-bad-channel-spec = tie.close (tie.spec

@@ -39,7 +39,8 @@ within c =
 abbrev turn-of : tie.After-word-ok Inv-loop μ-loop → tie.In-loop Inv-loop μ-loop
 turn-of c = c .before .before .before .before .before
 
-inside : (c : tie.In-loop Inv-loop μ-loop) → c .before .loop .i < inputCount (now (start-of (c .before) .args .inputs))
+inside : (c : tie.In-loop Inv-loop μ-loop) → c .before .loop .i < inputCount
+    (now (start-of (c .before) .args .inputs))
 inside c = let s = start-of (c .before) in omega (arith, c .loop-test .taken, s .pre .0 .1 .0)
 
 tested : (c : tie.After-word-ok Inv-loop μ-loop) →

@@ -12,7 +12,8 @@ use Rattle.evaluator.proofs.checks.record_ok.Tie as tie
 -- a record of that size has a word for each input
 within : (s : tie.Start) → length (now (s .args .rec)) ≡ s .args .c .size →
     let k = s .args .c in
-    ((k .groups ≤ 8) × ((k .inputs ≡ inputCount (now (s .args .inputs))) × (inputCount (now (s .args .inputs)) ≤ 128)))
+    ((k .groups ≤ 8) × ((k .inputs ≡ inputCount (now (s .args .inputs)))
+    × (inputCount (now (s .args .inputs)) ≤ 128)))
     × ((length (now (s .args .inputs)) ≡ inputSize * k .inputs)
     × (length (now (s .args .rec)) ≡ headSize + k .groups + wordSize * k .inputs))
 unfolding recordSize

@@ -20,7 +20,8 @@ abbrev start-of : tie.At-loop Inv-loop μ-loop → tie.Start Inv-loop μ-loop
 start-of c = c .before .before .before
 
 -- the block is one of the project's
-inside : (c : tie.In-loop Inv-loop μ-loop) → c .before .loop .b < blockCount (now (start-of (c .before) .args .blocks))
+inside : (c : tie.In-loop Inv-loop μ-loop) → c .before .loop .b < blockCount
+    (now (start-of (c .before) .args .blocks))
 inside c = omega (arith, c .loop-test .taken, start-of (c .before) .pre .1 .count)
 
 -- it is one of 64, behind at most 8 groups

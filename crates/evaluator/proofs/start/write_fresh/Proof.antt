@@ -10,8 +10,8 @@ use Rattle.evaluator.proofs.start.write_fresh.Statement.{statement}
 use Rattle.evaluator.proofs.start.write_fresh.Tie as tie
 
 -- X is the cleared buffer, its part from h on has the bytes T
-shape : (h n : ℕ) (X T : List ℕ) (m : ℕ) → X ≡ replicate m 0 → m ≡ h + stateSize * n → T ≡ gather n (λ b. freshBytes) →
-    putMid h (length X - h) X T ≡ replicate h 0 ++ gather n (λ b. freshBytes)
+shape : (h n : ℕ) (X T : List ℕ) (m : ℕ) → X ≡ replicate m 0 → m ≡ h + stateSize * n →
+    T ≡ gather n (λ b. freshBytes) → putMid h (length X - h) X T ≡ replicate h 0 ++ gather n (λ b. freshBytes)
 shape h n X T m x s t = (λ i. front i ++ (t i ++ back i)) ∙ ap (λ (u : List ℕ). replicate h 0 ++ u) (append-nil _)
   where
     long : length X ≡ h + stateSize * n

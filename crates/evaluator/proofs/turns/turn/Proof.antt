@@ -38,7 +38,8 @@ acked : (c : tie.After-err-ack) →
 acked c =
     let a = start-of (c .before .before .before .before) .args in
     c .err-ack .ensures
-    ∙ ap isErrAck (c .before .byte-at2 .ensures ∙ ap (controlByte (now (a .rec))) (group (c .before .before .before)))
+    ∙ ap isErrAck (c .before .byte-at2 .ensures ∙ ap (controlByte (now (a .rec)))
+    (group (c .before .before .before)))
 
 -- the block is there
 within : (s : tie.Start) → let a = s .args in Within (a .h) (a .b) (now (a .state))
