@@ -1,4 +1,5 @@
-//! Links the static library, from the folder that HAGGLETHWAIT_LIB names or from where `rt staticlib hagglethwait` puts it.
+//! Links the static library, from the folder that HAGGLETHWAIT_LIB names or from where `rt staticlib hagglethwait`
+//! puts it.
 
 use std::env;
 use std::path::Path;

@@ -1,5 +1,6 @@
-//! The library's calls as safe functions over slices. A slice is two arguments in C, a pointer and a length; Rust's borrows give what `include/hagglethwait.h`
-//! asks of a caller: no pointer is null, each points to as many bytes as its length says, and what is written overlaps nothing.
+//! The library's calls as safe functions over slices. A slice is two arguments in C, a pointer and a length; Rust's
+//! borrows give what `include/hagglethwait.h` asks of a caller: no pointer is null, each points to as many bytes as
+//! its length says, and what is written overlaps nothing.
 
 mod raw {
     extern "C" {

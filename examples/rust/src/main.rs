@@ -20,8 +20,8 @@ fn body(file: &[u8], e: usize) -> &[u8] {
     &file[start..start + size]
 }
 
-/// An input of a block as its line shows it. Arithmetic blocks (kinds 3 to 6) have their inputs' types at the front of their parameters, 0 INT16 and 2 INT32 the
-/// signed ones.
+/// An input of a block as its line shows it. Arithmetic blocks (kinds 3 to 6) have their inputs' types at the front
+/// of their parameters, 0 INT16 and 2 INT32 the signed ones.
 fn shown(file: &[u8], block: u8, port: usize, word: u32) -> i64 {
     let record = &body(file, 2)[40 * usize::from(block)..];
     if record[0] >= 3 && matches!(record[4 + port], 0 | 2) {

@@ -1,4 +1,5 @@
-//! An endless sequence of requests: one project after the other, each checked, run from state to state, and damaged in between.
+//! An endless sequence of requests: one project after the other, each checked, run from state to state, and damaged
+//! in between.
 
 use crate::case::Case;
 use crate::cycles::{well_formed, Machine};
@@ -22,7 +23,8 @@ pub struct Calls {
 }
 
 impl Calls {
-    /// With `small` nearly all projects are small, and files beyond 8,192 bytes rare; with `checks` only files are asked about.
+    /// With `small` nearly all projects are small, and files beyond 8,192 bytes rare; with `checks` only files are
+    /// asked about.
     pub fn new(seed: u64, small: bool, checks: bool) -> Calls {
         let case = Case { g: vec![0, 0], ..Case::default() };
         Calls {
@@ -100,7 +102,8 @@ impl Calls {
         }
     }
 
-    /// A cycle with this file and record, and buffers of this project's sizes with any bytes in the two that are only written.
+    /// A cycle with this file and record, and buffers of this project's sizes with any bytes in the two that are only
+    /// written.
     fn cycle(&mut self, file: Vec<u8>, record: Vec<u8>) -> Request {
         let mut lent = |size: usize| -> Vec<u8> {
             let random = &mut self.random;

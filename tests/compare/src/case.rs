@@ -1,5 +1,5 @@
-//! A case file as its five bodies, and names for what stands in them. This knows the layout of the file by itself and asks the
-//! reference nothing, so that a file which is made to be accepted is a third opinion on it.
+//! A case file as its five bodies, and names for what stands in them. This knows the layout of the file by itself and
+//! asks the reference nothing, so that a file which is made to be accepted is a third opinion on it.
 
 pub const DECOUPLE: u8 = 1;
 pub const TWOHAND: u8 = 2;

@@ -1,4 +1,5 @@
-//! What came up in a run: refusals, and for accepted cycles kinds, phases, state codes, steps from code to code, diagnoses, findings.
+//! What came up in a run: refusals, and for accepted cycles kinds, phases, state codes, steps from code to code,
+//! diagnoses, findings.
 
 use std::fmt::Write;
 

@@ -4,8 +4,8 @@ use crate::case::*;
 use crate::project::parameters;
 use crate::random::Random;
 
-/// A file that is likely to be turned down with this number, 1 to 9. Sometimes it is accepted all the same, or turned down
-/// with a lower number: the answer is the reference's business.
+/// A file that is likely to be turned down with this number, 1 to 9. Sometimes it is accepted all the same, or turned
+/// down with a lower number: the answer is the reference's business.
 pub fn file(random: &mut Random, good: &Case, number: u8) -> Vec<u8> {
     let mut case = good.clone();
     match number {

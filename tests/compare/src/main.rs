@@ -144,8 +144,8 @@ fn compare(count: u64, options: &Options) -> Result<(), String> {
     Ok(())
 }
 
-/// Writes the request that was answered differently to a file: alone, if the program's answer is the same when it is asked nothing
-/// else, or else with the requests before it.
+/// Writes the request that was answered differently to a file: alone, if the program's answer is the same when it is
+/// asked nothing else, or else with the requests before it.
 fn disagreement(
     seed: u64,
     call: u64,

@@ -79,8 +79,8 @@ impl Drop for Server {
     }
 }
 
-/// What a program wrote on a whole input, to standard output and to standard error, and whether it ended normally. A program may
-/// end without reading all of its input.
+/// What a program wrote on a whole input, to standard output and to standard error, and whether it ended normally. A
+/// program may end without reading all of its input.
 pub fn run(program: &[String], input: &[u8]) -> io::Result<(Vec<u8>, Vec<u8>, bool)> {
     let mut child = Command::new(&program[0])
         .args(&program[1..])

@@ -1,5 +1,6 @@
-//! Requests that break the rules of the pipe: the answers given before stand, one line on standard error says which request and
-//! why, and the program ends. The reference has no such limits, so this compares with the rules themselves.
+//! Requests that break the rules of the pipe: the answers given before stand, one line on standard error says which
+//! request and why, and the program ends. The reference has no such limits, so this compares with the rules
+//! themselves.
 
 use crate::calls::Calls;
 use crate::pipe;
