@@ -27,7 +27,7 @@ fn result_of(kind: u8, p: &[u8], x: u32, y: u32) -> numbers::Outcome
         return numbers::sum(ta, x, tb, y, t);
     }
     if kind == kind::SUB {
-        return numbers::rest(ta, x, tb, y, t);
+        return numbers::difference(ta, x, tb, y, t);
     }
     if kind == kind::MUL {
         return numbers::product(ta, x, tb, y, t);

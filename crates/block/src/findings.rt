@@ -42,7 +42,7 @@ fn second_named(family: Family, x: u32, y: u32) -> u32
 }
 
 // The bytes of a finding.
-fn pack(f: FindingRecord) -> [u8; FINDING_SIZE]
+fn finding_bytes(f: FindingRecord) -> [u8; FINDING_SIZE]
     ensures { λ r. ⌜ r ≡ findingBytes f ⌝ }
 {
     [
@@ -71,7 +71,7 @@ pub fn finding(number: u8, group: u8, kind: u8, x: u32, y: u32, s: &[u8]) -> [u8
 {
     let family = kind::family_of(kind);
     let diagnosis = diagnosis_of(s);
-    pack(FindingRecord {
+    finding_bytes(FindingRecord {
         block: number,
         group,
         text: text_id(family, diagnosis),

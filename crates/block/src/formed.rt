@@ -12,7 +12,7 @@ use crate::RESET;
 use crate::RUN;
 use crate::SAFE;
 use crate::STOP;
-use crate::state::load;
+use crate::state::decoded;
 use kind::Family;
 use kind::Limits;
 
@@ -127,5 +127,5 @@ pub fn well_formed(kind: u8, p: &[u8], s: &[u8]) -> bool
     (wire::byte(s, 1) == 0)
         & (wire::byte(s, 10) == 0)
         & (wire::byte(s, 11) == 0)
-        & formed(kind::family_of(kind), p, load(s))
+        & formed(kind::family_of(kind), p, decoded(s))
 }

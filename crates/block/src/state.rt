@@ -50,7 +50,7 @@ pub fn running(output: u32) -> BlockState
 }
 
 // A block's state from fewer bytes than it has, or from any number of them.
-fn load_any(s: &[u8]) -> BlockState
+fn decoded_any(s: &[u8]) -> BlockState
     ensures { λ r. ⌜ r ≡ decode (now (s .entry)) ⌝ }
 {
     BlockState {
@@ -64,11 +64,11 @@ fn load_any(s: &[u8]) -> BlockState
 }
 
 // A block's state from its bytes. Where they are all there, they are read at once.
-pub fn load(s: &[u8]) -> BlockState
+pub fn decoded(s: &[u8]) -> BlockState
     ensures { λ r. ⌜ r ≡ decode (now (s .entry)) ⌝ }
 {
     if s.len() < STATE_SIZE {
-        return load_any(s);
+        return decoded_any(s);
     }
     BlockState {
         code: s[0],
@@ -81,7 +81,7 @@ pub fn load(s: &[u8]) -> BlockState
 }
 
 // The bytes of a block's state.
-fn pack(c: BlockState) -> [u8; STATE_SIZE]
+fn encoded(c: BlockState) -> [u8; STATE_SIZE]
     ensures { λ r. ⌜ r ≡ encode c ⌝ }
 {
     [
@@ -108,7 +108,7 @@ fn pack(c: BlockState) -> [u8; STATE_SIZE]
 pub fn keep(s: &mut [u8], c: BlockState)
     ensures { λ _. ⌜ now (s .exit) ≡ sets (now (s .entry)) 0 (encode c) ⌝ }
 {
-    let bytes = pack(c);
+    let bytes = encoded(c);
     wire::put(s, 0, &bytes);
 }
 
@@ -116,7 +116,7 @@ pub fn keep(s: &mut [u8], c: BlockState)
 pub fn fresh() -> [u8; STATE_SIZE]
     ensures { λ r. ⌜ r ≡ freshBytes ⌝ }
 {
-    pack(plain(STOP))
+    encoded(plain(STOP))
 }
 
 // The block goes to STOP, as one of no kind would.

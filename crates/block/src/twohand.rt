@@ -19,12 +19,12 @@ use crate::SAFE;
 use crate::Times;
 use crate::inputs::wide;
 use crate::state::code_of;
+use crate::state::decoded;
 use crate::state::diagnosis_of;
 use crate::state::entered;
 use crate::state::in_error;
 use crate::state::is_error;
 use crate::state::keep;
-use crate::state::load;
 use crate::state::plain;
 use crate::step::acknowledged;
 use kind::Limits;
@@ -219,7 +219,7 @@ fn run_step(p: &[u8], ms: u16, x: u32, s: &mut [u8]) -> bool
         keep(s, plain(next_code(code, hands_of(active, x))));
         return false;
     }
-    let old = load(s);
+    let old = decoded(s);
     let new = twohand_run(p, ms, x, old);
     keep(s, new);
     entered(old.code, new.code)

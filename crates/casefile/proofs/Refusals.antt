@@ -16,8 +16,7 @@ use Rattle.casefile.specs.declared.table.Rule.the-variants.{Size}
 use Rattle.contents.specs.Contents.{bodyOf}
 use Rattle.casefile.specs.Bodies.{bodyG, bodyI, bodyB}
 use Rattle.casefile.specs.Refusal.{rules, ruleCount, ruleAt, refusalOf, holds, fileRow, fileTable, told}
-use Rattle.casefile.specs.Refusal.{verdict}
-use Rattle.casefile.specs.Refusal.{numberOf}
+use Rattle.casefile.specs.Refusal.{verdict, numberOf}
 use Rattle.casefile.specs.Asks.{Reached}
 
 -- ---- the row at a place

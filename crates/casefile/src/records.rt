@@ -12,13 +12,13 @@ ghost use Rattle.casefile.specs.Rules.{outputRule, outputRecordOk, trace
 pub fn groups_size_ok(groups: &[u8]) -> bool
     ensures { λ r. ⌜ r ≡ groupsSizeOk (now (groups .entry)) ⌝ }
 {
-    (2 <= groups.len()) & (groups.len() <= 9) & kind::is_device(project::device_of(groups))
+    (2 <= groups.len()) & (groups.len() <= 9) & kind::is_device(project::device_in(groups))
 }
 
 pub fn first_bad_group(groups: &[u8]) -> usize
     ensures { λ r. ⌜ r ≡ firstBad (groupRecordOk (now (groups .entry))) (groupCount (now (groups .entry))) ⌝ }
 {
-    let device = project::device_of(groups);
+    let device = project::device_in(groups);
     let n = project::group_count(groups);
     let mut k = 0;
     while k < n {
@@ -79,7 +79,7 @@ pub fn first_bad_block(groups: &[u8], blocks: &[u8]) -> usize
     ensures { λ r. ⌜ r ≡ firstBad (blockRecordOk (now (groups .entry)) (now (blocks .entry)))
         (blockCount (now (blocks .entry))) ⌝ }
 {
-    let device = project::device_of(groups);
+    let device = project::device_in(groups);
     let h = project::group_count(groups);
     let n = blocks.len() / project::BLOCK_SIZE;
     let mut k = 0;

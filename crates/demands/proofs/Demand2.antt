@@ -1,9 +1,9 @@
 -- Demand 2: an accepted cycle leaves exactly what the definitions say. The buffers and the count are the call's
 -- definition; each block's step is the fixed point of the cycle (`fixed`); the state that is left is well formed, since
 -- a step keeps a block so and a group's byte becomes 0, 1, 3 or stays. Assumes nothing.
-use Rattle.wire.proofs.Usual.{_≡_, refl, sym, ap, _∙_, Bool, true, false, cond, true≢false, List, [], _++_}
-use Rattle.wire.proofs.Usual.{append-nil, ℕ, zero, suc, _+_, _-_, _*_, _≤_, _<_, ℕ-discrete, decLt, arith}
-use Rattle.wire.proofs.Usual.{length, take, drop, replicate, length-append, length-replicate}
+use Rattle.wire.proofs.Usual.{_≡_, refl, sym, ap, _∙_, Bool, true, false, cond, List, [], _++_, append-nil, ℕ}
+use Rattle.wire.proofs.Usual.{zero, suc, _+_, _-_, _*_, _≤_, _<_, ℕ-discrete, decLt, arith, length, take, drop}
+use Rattle.wire.proofs.Usual.{replicate, length-append, length-replicate}
 use mathlib.Core.List.{append-assoc}
 use native.Mathlib.Nat.{not-suc-le-zero, mul-zero, mul-suc, add-zero}
 use native.Mathlib.Numerals.{add-one}
@@ -17,7 +17,6 @@ use Rattle.project.specs.Asks.{Sound}
 use Rattle.casefile.specs.Bodies.{projectOf}
 use Rattle.casefile.proofs.Accepted.{accepted}
 use Rattle.block.specs.Finding.{findingSize}
-use Rattle.evaluator.specs.declared.Answer.{Answer}
 use Rattle.evaluator.specs.declared.Answer.the-variants.{Findings, Refused}
 use Rattle.evaluator.specs.Net.{words, seen}
 use Rattle.evaluator.specs.State.{cell, stateFormed}

@@ -1,7 +1,7 @@
 -- Demand 3: two accepted files whose projects are alike give the same runs. All that a cycle reads of a block but its
 -- execution number is the same in both, and the execution numbers matter along links alone (`agree`). Assumes nothing.
 use Rattle.wire.proofs.Usual.{_≡_, refl, sym, ap, ap₂, _∙_, subst, Bool, not, _&&_, List, [], _∷_, _++_, ℕ}
-use Rattle.wire.proofs.Usual.{zero, suc, _+_, _*_, _<_, eqb}
+use Rattle.wire.proofs.Usual.{zero, suc, _*_, _<_, eqb}
 use mathlib.Core.Path.{fun-ext}
 use Rattle.wire.specs.Words.{bytes4}
 use Rattle.wire.specs.Records.{gather}

@@ -26,8 +26,7 @@ use Rattle.evaluator.specs.State.{cell, cellFormed, findingsLength, grou
 use Rattle.evaluator.specs.State.{isAcknowledged, isHeld, outputsLength, stateFormed, stateHead, stateLength}
 use Rattle.evaluator.specs.Groups.{controlByte, groupFrom, groupNext, hasError, newGroup, pends}
 use Rattle.evaluator.specs.Cycle.{findingCount, newBlock, newFindings, newHead, newOutputs, newState}
-use Rattle.evaluator.specs.Cycle.{outputWord}
-use Rattle.evaluator.specs.Cycle.{portShows}
+use Rattle.evaluator.specs.Cycle.{outputWord, portShows}
 use Rattle.evaluator.specs.Packed.{hits, packed}
 use Rattle.evaluator.proofs.Cycles.{block-formed, block-length, count-new, count-none, decidedState}
 use Rattle.evaluator.proofs.Cycles.{findings-new, findings-none, group-is, head-long, state-new, all-noted}

@@ -1,7 +1,7 @@
 -- One cycle of an accepted project as the code runs it, and as the definitions say it: the groups decide first, then
 -- the blocks run in a state whose group bytes are new already, in the phases that a list has. Assumes nothing.
 use Rattle.wire.proofs.Usual.{_≡_, refl, sym, ap, ap₂, _∙_, Bool, true, false, cond, List, _++_, ℕ, zero, suc}
-use Rattle.wire.proofs.Usual.{_+_, _*_, _<_, zero-add, arith, ltb, length, take, drop, replicate}
+use Rattle.wire.proofs.Usual.{_*_, _<_, zero-add, arith, ltb, length, take, drop, replicate}
 use native.Mathlib.Nat.{add-comm, mul-zero, mul-suc}
 use lib.ListN.{replicate-append-replicate}
 use lib.Seq.{take-at, drop-at}
@@ -23,9 +23,8 @@ use Rattle.evaluator.specs.Groups.{groupFrom, phaseOf, newGroup, phase}
 use Rattle.evaluator.specs.Packed.{hits, packed}
 use Rattle.evaluator.specs.Cycle.{wires, net, turnedFrom, ran, newBlock, wordsRead, newHead, newState, enters}
 use Rattle.evaluator.specs.Cycle.{findingFor, finding, findingCount, newFindings}
-use Rattle.evaluator.specs.Asks.{errorList, marked, groupWith, Decided, ranWith, entersWith, foundWith}
-use Rattle.evaluator.specs.Asks.{slotWith}
-use Rattle.evaluator.specs.Asks.{noteIn, isNoted, Noted}
+use Rattle.evaluator.specs.Asks.{errorList, saysError, groupWith, Decided, ranWith, entersWith, foundWith}
+use Rattle.evaluator.specs.Asks.{slotWith, noteIn, isNoted, Noted}
 use Rattle.evaluator.proofs.Agree.{agree, fixed}
 use Rattle.evaluator.proofs.Stage.{words-local}
 use Rattle.evaluator.proofs.Deciding.{row-length, error-at}
@@ -94,7 +93,7 @@ module _ {n : ℕ} (G B E R S H : List ℕ) (g : Sound G B n) (marks : E ≡ err
   unfolding newGroup
   group-is k q =
       ap (λ (t : Bool). groupFrom (device G) t R S k)
-      (ap (λ (t : List ℕ). marked t k) marks ∙ error-at h B S k (omega (arith, g .fewGroups)))
+      (ap (λ (t : List ℕ). saysError t k) marks ∙ error-at h B S k (omega (arith, g .fewGroups)))
 
   phase-is : (k : ℕ) → k < h → byteAt H k ≡ phase G B R S k
   unfolding phase

@@ -4,8 +4,7 @@ use Rattle.wire.proofs.Usual.{_≡_, refl, sym, ap, ap₂, _∙_, Bool, true, f
 use Rattle.wire.proofs.Usual.{ℕ, zero, suc, _+_, _-_, _≤_, _<_, zero-add, ℕ-discrete, decLt, arith, eqb, length}
 use Rattle.wire.proofs.Usual.{set, drop, replicate, length-append, length-drop, eq-eqb, ne-eqb}
 use native.Mathlib.Nat.{not-suc-le-zero, le-of-suc-le-suc}
-use lib.ListN.{getD, length-set, getD-replicate}
-use lib.ListN.{List·getD-append}
+use lib.ListN.{getD, length-set, getD-replicate, List·getD-append}
 use lib.Seq.{getD-set-same, getD-set-other, getD-append-add, getD-drop, ext-getD}
 use Rattle.wire.specs.Words.{byteAt}
 use Rattle.wire.specs.Records.{gather}
@@ -16,7 +15,7 @@ use Rattle.project.specs.Project.{device, groupOf, blockCount, headSize}
 use Rattle.block.specs.State.{onlyIf, isError}
 use Rattle.evaluator.specs.Groups.{controlByte, erredIn, hasError, pends, groupNext, groupFrom, phaseOf}
 use Rattle.evaluator.specs.State.{groupsAt, stateHead, groupByte, cell}
-use Rattle.evaluator.specs.Asks.{errorList, Decided, marked, groupWith}
+use Rattle.evaluator.specs.Asks.{errorList, Decided, saysError, groupWith}
 
 -- ---- a list of n numbers
 
@@ -172,7 +171,7 @@ module _ (E G R S₀ : List ℕ) (h : ℕ) where
         new ≡ groupWith E G R S₀ g
     unfolding groupFrom
     new-is c v x new pend ack ec ev ex ep ea en =
-        let pending : pend ≡ pends (device G) (controlByte R g) (marked E g) =
+        let pending : pend ≡ pends (device G) (controlByte R g) (saysError E g) =
         ep ∙ (λ i. pends (ec i) (ev i) (eqb (ex i) 1))
         in
         en ∙ (λ i. groupNext (pending i) ((ea ∙ ap isErrAck ev) i) (d .left (groupsAt + g) (omega arith) i))

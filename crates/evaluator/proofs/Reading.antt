@@ -1,5 +1,5 @@
 -- What the code reads of the blocks, the record and the state, said by the definitions of a cycle. Assumes nothing.
-use Rattle.wire.proofs.Usual.{_≡_, refl, ap, _∙_, List, ℕ, _+_, _-_, _*_, _≤_, _<_, arith, length, take, drop}
+use Rattle.wire.proofs.Usual.{_≡_, refl, ap, _∙_, List, ℕ, _+_, _*_, _≤_, _<_, arith, length, take, drop}
 use Rattle.wire.specs.Words.{le32}
 use Rattle.wire.specs.Records.{slot}
 use Rattle.wire.proofs.Records.{word-within}

@@ -1,8 +1,7 @@
 -- A cycle call over an accepted file, from buffers of their sizes and a well-formed state: it answers and leaves what a
 -- step does, and what it leaves may be lent to the next call. Assumes nothing.
-use Rattle.wire.proofs.Usual.{_≡_, refl, sym, ap, _∙_, subst, Bool, true, false, cond, List, [], _++_, ℕ, zero}
-use Rattle.wire.proofs.Usual.{suc, _+_, _-_, _*_, _≤_, arith, eq-eqb, length, replicate, length-append}
-use Rattle.wire.proofs.Usual.{length-replicate}
+use Rattle.wire.proofs.Usual.{_≡_, refl, sym, _∙_, subst, Bool, true, false, cond, List, [], _++_, ℕ, zero, suc}
+use Rattle.wire.proofs.Usual.{_-_, _*_, _≤_, arith, eq-eqb, length, replicate, length-append, length-replicate}
 use native.Mathlib.Nat.{mul-suc}
 use Rattle.wire.specs.Words.{bytes4}
 use Rattle.wire.specs.Tables.{first}
@@ -16,7 +15,7 @@ use Rattle.block.specs.Finding.{findingSize}
 use Rattle.evaluator.specs.declared.Answer.the-variants.{Refused}
 use Rattle.evaluator.specs.State.{stateLength, outputsLength, findingsLength, stateFormed}
 use Rattle.evaluator.specs.Packed.{entries, packed}
-use Rattle.evaluator.specs.Cycle.{newState, newOutputs, newFindings, enters, finding, outputWord}
+use Rattle.evaluator.specs.Cycle.{newOutputs, newFindings, enters, finding, outputWord}
 use Rattle.evaluator.specs.Answer.{recordOk, Lent, Left, sizesOk, callRows, refusal, leaves, cycleOf}
 use Rattle.evaluator.specs.Steps.{stepAnswer, stepState, stepFindings}
 use Rattle.evaluator.proofs.Running.{found-length}

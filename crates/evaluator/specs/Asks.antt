@@ -145,8 +145,8 @@ unfoldable pub errorList : ℕ → List ℕ → List ℕ → List ℕ
 errorList h B S = gather 8 (λ g. onlyIf (hasError h B S g) 1 ∷ [])
 
 -- what a list E of such bytes says of group g
-abbrev pub marked : List ℕ → ℕ → Bool
-marked E g = eqb (byteAt E g) 1
+abbrev pub saysError : List ℕ → ℕ → Bool
+saysError E g = eqb (byteAt E g) 1
 
 -- 01, "The case file": the blocks of an accepted project have groups below 8
 pub record Grouped (B : List ℕ) (n : ℕ) : Type 0 where
@@ -156,7 +156,7 @@ pub record Grouped (B : List ℕ) (n : ℕ) : Type 0 where
 
 -- 01, "One cycle": group g's byte after the cycle, where E says which groups have an error
 abbrev pub groupWith : List ℕ → List ℕ → List ℕ → List ℕ → ℕ → ℕ
-groupWith E G R S g = groupFrom (device G) (marked E g) R S g
+groupWith E G R S g = groupFrom (device G) (saysError E g) R S g
 
 -- 01, "One cycle": a list of eight has the phases of the first h groups
 pub record Decided (E G R S : List ℕ) (h : ℕ) (H : List ℕ) : Type 0 where

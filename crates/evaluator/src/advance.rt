@@ -27,7 +27,7 @@ pub fn advance(
     let n = c.blocks;
     wire::clear(findings);
     let phases = crate::groups::decide(groups, h, rec, errors, state);
-    let some = crate::turns::run(blocks, h, n, ranks, rec, &phases, state, findings);
+    let some = crate::turns::take_turns(blocks, h, n, ranks, rec, &phases, state, findings);
     if !some {
         return 0;
     }

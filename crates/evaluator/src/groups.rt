@@ -99,7 +99,7 @@ pub fn decide(groups: &[u8], h: usize, rec: &[u8], errors: &[u8], state: &mut [u
     ensures phases { λ r. ⌜ Decided (now (errors .entry)) (now (groups .entry)) (now (rec .entry))
         (now (state .entry)) h r ⌝ }
 {
-    let device = project::device_of(groups);
+    let device = project::device_in(groups);
     let mut phases = [0u8; 8];
     let mut g = 0;
     while g < h {

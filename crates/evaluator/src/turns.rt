@@ -4,7 +4,7 @@ ghost use mathlib.Core.Path.{_≡_};
 ghost use mathlib.Core.Bool.{false};
 ghost use mathlib.Core.List.{_++_};
 ghost use Prim.Native.Nat.{ℕ, _+_, _*_, _≤_, _<_};
-ghost use lib.ListN.{length, take};
+ghost use lib.ListN.{take};
 ghost use lib.Seq.{sets};
 ghost use Rattle.wire.specs.Records.{gather};
 ghost use Rattle.kind.specs.Kinds.{familyOf};
@@ -264,7 +264,7 @@ fn turn(
 
 // The turns of all n blocks, by execution number; `ranks` has the blocks in that order. Answers whether some block may
 // have entered ERROR, and leaves in `findings` what each says, by block number.
-pub fn run(
+pub fn take_turns(
     blocks: &[u8],
     h: usize,
     n: usize,

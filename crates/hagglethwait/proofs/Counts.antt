@@ -1,14 +1,12 @@
 -- A cycle has at most as many findings as an accepted file has blocks, so that the count fits C's number; and no buffer
 -- of an accepted file is larger than the header says. Assumes nothing.
-use Rattle.wire.proofs.Usual.{_≡_, refl, sym, ap, subst, Bool, true, false, cond, List, ℕ, zero, suc, _≤_, arith}
-use Rattle.wire.proofs.Usual.{eqb, ne-eqb}
+use Rattle.wire.proofs.Usual.{_≡_, refl, Bool, true, false, cond, List, ℕ, zero, suc, _≤_, arith, eqb, ne-eqb}
 use Rattle.wire.specs.Tables.{first}
 use Rattle.project.specs.Project.{blockCount}
 use Rattle.casefile.specs.Bodies.{projectOf}
 use Rattle.casefile.specs.Refusal.{fileTable}
 use Rattle.casefile.proofs.Refusals.{number-zero}
 use Rattle.casefile.proofs.Accepted.{accepted}
-use Rattle.evaluator.specs.declared.Answer.{Answer}
 use Rattle.evaluator.specs.declared.Answer.the-variants.{Findings, Refused}
 use Rattle.evaluator.specs.declared.Sizes.{Sizes}
 use Rattle.evaluator.specs.State.{stateLength, outputsLength, findingsLength}

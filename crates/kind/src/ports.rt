@@ -1,6 +1,6 @@
 // The ports of a kind, and their types.
 ghost use mathlib.Core.Path.{_≡_};
-ghost use Rattle.kind.specs.Ports.{portsInOf, portsIn, portsOutOf, portsOut, numberIn, numberOut};
+ghost use Rattle.kind.specs.Ports.{portsInOf, portsIn, portsOutOf, portsOut, arithmeticIn, arithmeticOut};
 ghost use Rattle.kind.specs.Ports.{typeInOf, typeIn, typeOutOf, typeOut};
 use crate::BOOL;
 use crate::Family;
@@ -46,8 +46,8 @@ pub fn ports_out(kind: u8) -> u8
 }
 
 // The type of an input port of arithmetic, and of an output port.
-fn number_in(p: &[u8], port: u8) -> u8
-    ensures { λ r. ⌜ r ≡ numberIn (now (p .entry)) port ⌝ }
+fn arithmetic_in(p: &[u8], port: u8) -> u8
+    ensures { λ r. ⌜ r ≡ arithmeticIn (now (p .entry)) port ⌝ }
 {
     if port == 0 {
         return first_type(p);
@@ -55,8 +55,8 @@ fn number_in(p: &[u8], port: u8) -> u8
     second_type(p)
 }
 
-fn number_out(p: &[u8], port: u8) -> u8
-    ensures { λ r. ⌜ r ≡ numberOut (now (p .entry)) port ⌝ }
+fn arithmetic_out(p: &[u8], port: u8) -> u8
+    ensures { λ r. ⌜ r ≡ arithmeticOut (now (p .entry)) port ⌝ }
 {
     if port == 0 {
         return BOOL;
@@ -71,7 +71,7 @@ fn type_in_of(family: Family, p: &[u8], port: u8) -> u8
     match family {
         Family::Decouple => BOOL,
         Family::Twohand => BOOL,
-        Family::Arithmetic => number_in(p, port),
+        Family::Arithmetic => arithmetic_in(p, port),
         Family::Unknown => BOOL,
     }
 }
@@ -82,7 +82,7 @@ fn type_out_of(family: Family, p: &[u8], port: u8) -> u8
     match family {
         Family::Decouple => BOOL,
         Family::Twohand => BOOL,
-        Family::Arithmetic => number_out(p, port),
+        Family::Arithmetic => arithmetic_out(p, port),
         Family::Unknown => BOOL,
     }
 }

@@ -1,6 +1,6 @@
 -- Sign and magnitude against ℤ: what the code computes on magnitudes is the library's sum, product, order and
--- quotient,
--- and the definitions of `specs/` at a sign and a magnitude. Every law is by cases on the signs. Assumes nothing.
+-- quotient, and the definitions of `specs/` at a sign and a magnitude. Every law is by cases on the signs. Assumes
+-- nothing.
 use mathlib.Core.Path.{_≡_, refl, sym, ap, _∙_, subst⁻¹}
 use mathlib.Core.Bool.{Bool, true, false, not, _&&_}
 use Prim.Native.Nat.{ℕ, zero, suc, _+_, _-_, _*_, _/_, _%_, _^_, _≤_, _<_, zero-le}

@@ -6,9 +6,9 @@
 use mathlib.Core.Path.{_≡_, refl, sym, ap, _∙_, subst}
 use mathlib.Core.Bool.{Bool, true, false, not, cond}
 use Prim.Native.Nat.{ℕ, zero, suc, _+_, _-_, _*_, _/_, _%_, _≤_, _<_}
-use native.Mathlib.Nat.{add-zero, add-suc, mul-suc, div-zero, div-add-mod', mod-lt, add-mul, one-mul, suc-mul}
-use native.Mathlib.Nat.{le-trans, mul-le-mul-right, lt-of-mul-lt-mul-right, div-mul-le-self}
-use native.Mathlib.Nat.{le-div-iff-mul-le, not-suc-le-zero, lt-of-not-le}
+use native.Mathlib.Nat.{add-zero, add-suc, mul-suc, div-zero, div-add-mod', mod-lt, add-mul, one-mul, suc-mul, le-trans}
+use native.Mathlib.Nat.{mul-le-mul-right, lt-of-mul-lt-mul-right, div-mul-le-self, le-div-iff-mul-le, not-suc-le-zero}
+use native.Mathlib.Nat.{lt-of-not-le}
 use native.Mathlib.Omega.{arith}
 use native.Mathlib.Decide.{decLe}
 use borrow.Author.Tests.{lt-ltb, le-ltb, le-leb, lt-leb}

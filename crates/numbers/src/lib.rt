@@ -6,7 +6,7 @@ ghost use Prim.Native.Nat.{_^_, _<_};
 ghost use lib.IntN.{subℕ, _+ℤ_, _-ℤ_, _*ℤ_};
 ghost use Rattle.numbers.specs.Types.{isSigned, under, over, value, inside, typeOf, signed, zOf};
 ghost use Rattle.numbers.specs.Results.{differ, away, quotient as quotientOf, settled, outcome};
-ghost use Rattle.numbers.specs.Results.{roundingOf, diagnosis, textOf};
+ghost use Rattle.numbers.specs.Results.{roundingOf, textOf};
 ghost use Rattle.numbers.specs.declared.Op.the-variants.{Add, Sub, Mul, Div};
 
 // The type of an input or an output.
@@ -113,7 +113,7 @@ pub fn load(t: NumType, w: u32) -> Signed
 }
 
 // a - b, of two magnitudes.
-fn difference(a: u64, b: u64) -> Signed
+fn distance(a: u64, b: u64) -> Signed
     ensures { λ r. ⌜ zOf r ≡ subℕ a b ⌝ }
 {
     if a < b {
@@ -141,11 +141,11 @@ fn plus(a: Signed, b: Signed) -> Signed
                 mag: a.mag + b.mag,
             }
         } else {
-            difference(b.mag, a.mag)
+            distance(b.mag, a.mag)
         }
     } else {
         if b.neg {
-            difference(a.mag, b.mag)
+            distance(a.mag, b.mag)
         } else {
             Signed {
                 neg: false,
@@ -254,7 +254,7 @@ pub fn sum(ta: NumType, a: u32, tb: NumType, b: u32, t: NumType) -> Outcome
     settle(t, plus(x, y))
 }
 
-pub fn rest(ta: NumType, a: u32, tb: NumType, b: u32, t: NumType) -> Outcome
+pub fn difference(ta: NumType, a: u32, tb: NumType, b: u32, t: NumType) -> Outcome
     ensures { λ r. ⌜ r ≡ outcome Sub ta a tb b t ⌝ }
 {
     let x = load(ta, a);
@@ -284,7 +284,7 @@ pub fn compute(op: Op, ta: NumType, a: u32, tb: NumType, b: u32, t: NumType) -> 
 {
     match op {
         Op::Add => sum(ta, a, tb, b, t),
-        Op::Sub => rest(ta, a, tb, b, t),
+        Op::Sub => difference(ta, a, tb, b, t),
         Op::Mul => product(ta, a, tb, b, t),
         Op::Div(rounding) => quotient(rounding, ta, a, tb, b, t),
     }
@@ -310,17 +310,6 @@ pub fn rounding_of(b: u8) -> Rounding
         0 => Rounding::Floor,
         1 => Rounding::Ceil,
         _ => Rounding::Round,
-    }
-}
-
-// The diagnosis of a result, 0 where the output is right.
-pub fn diagnosis_of(o: Outcome) -> u16
-    ensures { λ r. ⌜ r ≡ diagnosis o ⌝ }
-{
-    match o {
-        Outcome::Below => 1,
-        Outcome::Above => 2,
-        Outcome::Value(_) => 0,
     }
 }
 

@@ -9,9 +9,8 @@ use Rattle.wire.specs.Words.{byteAt}
 use Rattle.kind.specs.Parameters.{parameterCount}
 use Rattle.project.specs.declared.Source.the-variants.{Nothing}
 use Rattle.project.specs.Project.{Project, rowOf, blockSize, blockCount, blockRecord, orderPlace}
-use Rattle.project.specs.Project.{parameterStart}
-use Rattle.project.specs.Project.{linkStart, linkSize, linkCount, parametersIn, sourceFrom, linkIn}
-use Rattle.project.specs.Project.{kindOf, groupOf, parametersOf, linkOf}
+use Rattle.project.specs.Project.{parameterStart, linkStart, linkSize, linkCount, parametersIn, sourceFrom}
+use Rattle.project.specs.Project.{linkIn, kindOf, groupOf, parametersOf, linkOf}
 use Rattle.project.specs.Alike.{Alike}
 use Rattle.project.proofs.Records.{row-byte}
 

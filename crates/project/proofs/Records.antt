@@ -1,7 +1,7 @@
 -- Records of a size in a list: where one past the last whole one starts, how long a record is, its bytes, and its
 -- parts. Assumes nothing.
 use Rattle.wire.proofs.Usual.{_≡_, sym, ap, _∙_, List, [], ℕ, _+_, _*_, _/_, _<_, _≤_, arith, length, take}
-use Rattle.wire.proofs.Usual.{drop, length-drop, length-take-le}
+use Rattle.wire.proofs.Usual.{drop}
 use native.Mathlib.Nat.{mul-comm, mul-le-mul-left, mul-div-le, div-lt-iff-lt-mul, le-trans}
 use lib.Seq.{getD-take, getD-drop}
 use Rattle.wire.specs.Words.{byteAt}
@@ -28,10 +28,6 @@ module _ (w k : ℕ) (s : List ℕ) where
   pub row-past : 0 < w → length s / w < k → [] ≡ rowOf w k s
   unfolding rowOf
   row-past p l = sym (part-past s (w * k) w (omega (arith, past (length s) w k p l)))
-
-  pub row-long : w * k + w ≤ length s → length (rowOf w k s) ≡ w
-  unfolding rowOf
-  row-long l = length-take-le w (drop (w * k) s) (simp length-drop (omega arith))
 
   pub row-byte : (j : ℕ) → j < w → byteAt (rowOf w k s) j ≡ byteAt s (w * k + j)
   unfolding rowOf

@@ -8,8 +8,7 @@ use lib.ListN.{length}
 use Rattle.kind.specs.Parameters.{parametersOk}
 use Rattle.project.specs.declared.Source.the-variants.{External, Output}
 use Rattle.project.specs.Project.{device, groupCount, blockSize, blockCount, kindOf, groupOf, orderOf}
-use Rattle.project.specs.Project.{parametersOf, linkOf}
-use Rattle.project.specs.Project.{outputSize, outputCount, outputBlock}
+use Rattle.project.specs.Project.{parametersOf, linkOf, outputSize, outputCount, outputBlock}
 
 -- the device has the kind of block b, and its parameters are those of the kind
 abbrev pub ParametersKept : List ℕ → List ℕ → ℕ → Type 0

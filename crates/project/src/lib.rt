@@ -77,7 +77,7 @@ pub fn record_at(records: &[u8], size: usize, k: usize) -> &[u8]
 }
 
 // The device byte, the number of groups, and the byte of group g.
-pub fn device_of(groups: &[u8]) -> u8
+pub fn device_in(groups: &[u8]) -> u8
     ensures { λ r. ⌜ r ≡ device (now (groups .entry)) ⌝ }
 {
     wire::byte(groups, 0)
@@ -117,7 +117,7 @@ pub fn counts_of(groups: &[u8], inputs: &[u8], blocks: &[u8], outputs: &[u8]) ->
         (now (blocks .entry)) (now (outputs .entry)) ⌝ }
 {
     Counts {
-        device: device_of(groups),
+        device: device_in(groups),
         groups: group_count(groups),
         inputs: inputs.len() / INPUT_SIZE,
         blocks: blocks.len() / BLOCK_SIZE,

@@ -1,4 +1,4 @@
 pub mod Decimal
 pub mod Puts
 pub mod Lines
-pub mod Marked
+pub mod Samples

@@ -170,7 +170,7 @@ fn least(a: usize, b: usize) -> usize
 }
 
 // The trace of a file, over buffers that have the sizes of an accepted one's, but for its last line.
-fn start(file: &[u8], c: Counts, state: &mut [u8], findings: &mut [u8]) -> End
+fn trace_cycles(file: &[u8], c: Counts, state: &mut [u8], findings: &mut [u8]) -> End
     requires { ⌜ Offered (now file) c (now state) (now findings) ⌝ }
     ensures { λ r. ⌜ r ≡ endOf (now (file .entry)) ⌝ }
 {
@@ -211,7 +211,7 @@ pub fn trace(file: &[u8]) -> End
     let blocks = least(c.blocks, BLOCKS);
     let size = GROUPS_AT + least(c.groups, GROUPS) + STATE_SIZE * blocks;
     let room = FINDING_SIZE * blocks;
-    let end = start(file, c, &mut state[..size], &mut findings[..room]);
+    let end = trace_cycles(file, c, &mut state[..size], &mut findings[..room]);
     print_last(end);
     end
 }

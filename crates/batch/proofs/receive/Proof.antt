@@ -18,5 +18,7 @@ returns-5 c = counts _ _ (omega (arith, same-length-2 c, c .before .before .befo
 pub receive-spec : {M : Type 1} → statement M
 receive-spec = tie.close (tie.spec
     (λ c. search needs) (λ c. search needs) (λ c κs. search needs) (λ c. search needs) (λ c. search needs)
-    (λ c κs. search needs) (λ c. search needs) (λ c. search needs) (λ c. search needs) slice-aggregate-read-full-2
-    (λ c κs. search needs) (λ c. search needs) (λ c. search needs) same-length-2 returns-5)
+    (λ c κs. search needs) (λ c. search needs) (λ c. search needs) (λ c. search needs)
+    slice-aggregate-read-full-2
+    (λ c κs. search needs) (λ c. search needs) (λ c. search needs)
+    same-length-2 returns-5)

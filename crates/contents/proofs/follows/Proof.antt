@@ -1,5 +1,5 @@
 -- `contents::follows` meets its contract.
-use borrow.Author.Needs.{needs}
+use Rattle.wire.proofs.Usual.{needs}
 use Rattle.contents.specs.Contents.{followsOk}
 use Rattle.contents.proofs.follows.Statement.{statement}
 use Rattle.contents.proofs.follows.Tie as tie

@@ -1,5 +1,5 @@
 -- `contents::ok` meets its contract: one test after the other.
-use borrow.Author.Needs.{needs}
+use Rattle.wire.proofs.Usual.{needs}
 use Rattle.wire.specs.Places.{all}
 use Rattle.contents.specs.Contents.{contentsOk}
 use Rattle.contents.proofs.ok.Statement.{statement}

@@ -1,5 +1,5 @@
 -- `contents::size` meets its contract.
-use borrow.Author.Needs.{needs}
+use Rattle.wire.proofs.Usual.{needs}
 use Rattle.contents.specs.Contents.{bodySize}
 use Rattle.contents.proofs.size.Statement.{statement}
 use Rattle.contents.proofs.size.Tie as tie

@@ -1,5 +1,5 @@
 -- `contents::start` meets its contract.
-use borrow.Author.Needs.{needs}
+use Rattle.wire.proofs.Usual.{needs}
 use Rattle.contents.specs.Contents.{bodyStart}
 use Rattle.contents.proofs.start.Statement.{statement}
 use Rattle.contents.proofs.start.Tie as tie

@@ -126,8 +126,10 @@ returns-5 c =
 
 pub call-refusal-spec : {M : Type 1} → statement M
 call-refusal-spec = tie.close (tie.spec
-    (λ c κs. search needs) (λ c κs. search needs) returns (λ c κs. search needs) (λ c κs. search needs)
-    (λ c κs. search needs) (λ c κs. search needs) (λ c κs. search needs)
+    (λ c κs. search needs) (λ c κs. search needs)
+    returns
+    (λ c κs. search needs) (λ c κs. search needs) (λ c κs. search needs) (λ c κs. search needs)
+    (λ c κs. search needs)
     (λ c κs. few (c .counts-of .ensures) (tested c))
     returns-2
     (λ c κs. let k = c .before .before in whole (k .counts-of .ensures) (tested k))

@@ -104,6 +104,9 @@ returns-2 c =
 pub cycle-spec : {M : Type 1} → statement M
 cycle-spec = tie.close (tie.spec
     (λ c κs. search needs) (λ c κs. search needs) (λ c. search needs) (λ c. search needs) (λ c. search needs)
-    returns (λ c κs. search needs) (λ c κs. search needs) (λ c κs. search needs) (λ c κs. search needs)
-    (λ c κs. search needs) whole-cycle-requires (λ c. search needs) (λ c. search needs) (λ c. search needs)
+    returns
+    (λ c κs. search needs) (λ c κs. search needs) (λ c κs. search needs) (λ c κs. search needs)
+    (λ c κs. search needs)
+    whole-cycle-requires
+    (λ c. search needs) (λ c. search needs) (λ c. search needs)
     returns-2)

@@ -63,7 +63,11 @@ returns-3 c =
 
 pub fresh-spec : {M : Type 1} → statement M
 fresh-spec = tie.close (tie.spec
-    (λ c κs. search needs) (λ c κs. search needs) returns (λ c κs. search needs) (λ c. search needs)
+    (λ c κs. search needs) (λ c κs. search needs)
+    returns
+    (λ c κs. search needs) (λ c. search needs)
     (λ c. omega (arith, small c))
     (λ c. omega (arith, small c))
-    returns-2 (λ c. search needs) (λ c κs. search needs) (λ c. search needs) returns-3)
+    returns-2
+    (λ c. search needs) (λ c κs. search needs) (λ c. search needs)
+    returns-3)

@@ -44,7 +44,9 @@ returns-2 c =
 
 pub sizes-of-spec : {M : Type 1} → statement M
 sizes-of-spec = tie.close (tie.spec
-    (λ c κs. search needs) (λ c κs. search needs) returns (λ c κs. search needs) (λ c. search needs)
+    (λ c κs. search needs) (λ c κs. search needs)
+    returns
+    (λ c κs. search needs) (λ c. search needs)
     (λ c. omega (arith, small c))
     (λ c. omega (arith, small c))
     (λ c. omega (arith, small c))

@@ -36,4 +36,7 @@ advance-requires c κs =
 
 pub step-spec : {M : Type 1} → statement M
 step-spec = tie.close (tie.spec
-    (λ c κs. search needs) returns advance-requires (λ c. search needs) (λ c. search needs) returns-2)
+    (λ c κs. search needs)
+    returns advance-requires
+    (λ c. search needs) (λ c. search needs)
+    returns-2)

@@ -48,5 +48,7 @@ hagglethwait-cycle-spec = tie.close (tie.spec
     (λ c. count-fits _ (small c))
     (λ c. search needs) (λ c. search needs)
     (λ c. minus-fits _ (byte c))
-    (λ c. search needs) (λ c. search needs) (λ c. search needs) returns (λ c. search needs) (λ c. search needs)
-    (λ c. search needs) returns-2)
+    (λ c. search needs) (λ c. search needs) (λ c. search needs)
+    returns
+    (λ c. search needs) (λ c. search needs) (λ c. search needs)
+    returns-2)

@@ -13,7 +13,8 @@ abbrev μ-loop : tie.MeasureT-loop
 
 pub main-spec : {M : Type 1} → statement M
 main-spec = tie.close (tie.spec
-    Inv-loop μ-loop (λ c. tt) (λ c κs. tt)
+    Inv-loop μ-loop
+    (λ c. tt) (λ c κs. tt)
     (λ c. omega arith)
     (λ c. omega arith)
     (λ c. tt) (λ c. tt) (λ c. tt))

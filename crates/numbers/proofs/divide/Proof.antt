@@ -1,6 +1,5 @@
 -- `numbers::divide` is the quotient in ℤ, rounded: one law for both signs. The remainder is below the divisor, and
--- the
--- quotient of two magnitudes is at most the first, so that one more fits. Assumes nothing.
+-- the quotient of two magnitudes is at most the first, so that one more fits. Assumes nothing.
 use mathlib.Core.Path.{sym, _∙_}
 use native.Mathlib.Nat.{mod-lt, div-le-self}
 use native.Mathlib.Omega.{arith}
@@ -35,5 +34,10 @@ returns-3 c =
 
 pub divide-spec : {M : Type 1} → statement M
 divide-spec = tie.close (tie.spec
-    returns (λ c κs. search needs) (λ c. search needs) goes-away-requires (λ c. search needs) add-t12
-    (λ c. search needs) returns-2 returns-3)
+    returns
+    (λ c κs. search needs) (λ c. search needs)
+    goes-away-requires
+    (λ c. search needs)
+    add-t12
+    (λ c. search needs)
+    returns-2 returns-3)

@@ -11,7 +11,7 @@ counts-of-spec = tie.close (tie.spec
     (λ c.
     let a = c .before .before .before .before .before .before .before .args in
     λ i. record {
-      device = c .before .before .device-of .ensures i;
+      device = c .before .before .device-in .ensures i;
       groups = c .before .group-count .ensures i;
       inputs = inputCount (now (a .inputs));
       blocks = blockCount (now (a .blocks));

@@ -1,5 +1,5 @@
 -- `project::parameters_of` meets its contract.
-use borrow.Author.Needs.{needs}
+use Rattle.wire.proofs.Usual.{needs}
 use Rattle.project.specs.Project.{parametersIn}
 use Rattle.project.proofs.parameters_of.Statement.{statement}
 use Rattle.project.proofs.parameters_of.Tie as tie

@@ -1,6 +1,6 @@
 -- `report::end_line` meets its contract: the word, the two numbers and the line feed, each stored behind the one
 -- before.
-use borrow.Author.Needs.{needs}
+use Rattle.wire.proofs.Usual.{needs}
 use Rattle.report.specs.Lines.{endWord, endLine}
 use Rattle.report.proofs.Lines.{end-short}
 use Rattle.report.proofs.Puts.{put-word, _then_, put-last, put-printed}
@@ -25,4 +25,5 @@ returns c =
 pub end-line-spec : {M : Type 1} → statement M
 end-line-spec = tie.close (tie.spec
     (λ c. search needs) (λ c κs. search needs) (λ c κs. search needs) (λ c κs. search needs)
-    (λ c κs. search needs) (λ c. search needs) (λ c. search needs) returns)
+    (λ c κs. search needs) (λ c. search needs) (λ c. search needs)
+    returns)

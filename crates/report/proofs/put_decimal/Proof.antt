@@ -26,7 +26,8 @@ returns c =
 
 pub put-decimal-spec : {M : Type 1} → statement M
 put-decimal-spec = tie.close (tie.spec
-    Inv-loop μ-loop (λ c κs. search needs)
+    Inv-loop μ-loop
+    (λ c κs. search needs)
     (λ c. omega (arith, c .digit-count .ensures, decimal-ten (c .before .before .args .n) (search needs)))
     (λ c. let a = c .before .before .args in behind-none (now (a .out)) (a .at) (a .n) (c .digit-count .ensures))
     (λ c. omega (arith, behind-some (c .before .loop .inv)))

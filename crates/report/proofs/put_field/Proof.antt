@@ -14,4 +14,5 @@ returns c =
 pub put-field-spec : {M : Type 1} → statement M
 put-field-spec =
     tie.close (tie.spec (λ c κs. search needs) (λ c. search needs) (λ c κs. search needs)
-    (λ c. search needs) returns)
+    (λ c. search needs)
+    returns)

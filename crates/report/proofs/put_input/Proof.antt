@@ -48,6 +48,10 @@ returns-2 c =
 
 pub put-input-spec : {M : Type 1} → statement M
 put-input-spec = tie.close (tie.spec
-    (λ c κs. search needs) cast-magnitude (λ c κs. search needs) (λ c. search needs) (λ c κs. search needs)
-    (λ c. search needs) (λ c κs. search needs) (λ c. search needs) returns (λ c. search needs)
-    (λ c κs. search needs) (λ c. search needs) returns-2)
+    (λ c κs. search needs)
+    cast-magnitude
+    (λ c κs. search needs) (λ c. search needs) (λ c κs. search needs) (λ c. search needs) (λ c κs. search needs)
+    (λ c. search needs)
+    returns
+    (λ c. search needs) (λ c κs. search needs) (λ c. search needs)
+    returns-2)

@@ -1,5 +1,5 @@
 -- `report::refused_line` meets its contract: the word, the number and the line feed, each stored behind the one before.
-use borrow.Author.Needs.{needs}
+use Rattle.wire.proofs.Usual.{needs}
 use Rattle.report.specs.Lines.{refusedWord, refusedLine}
 use Rattle.report.proofs.Lines.{refused-short}
 use Rattle.report.proofs.Puts.{put-word, _then_, put-last, put-printed}
@@ -22,4 +22,5 @@ returns c =
 pub refused-line-spec : {M : Type 1} → statement M
 refused-line-spec = tie.close (tie.spec
     (λ c. search needs) (λ c κs. search needs) (λ c κs. search needs) (λ c κs. search needs) (λ c. search needs)
-    (λ c. search needs) returns)
+    (λ c. search needs)
+    returns)

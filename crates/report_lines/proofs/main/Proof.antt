@@ -1,7 +1,7 @@
 -- `report_lines::main` is safe and ends: the measure is the number of turns that are left, and nothing has to hold
 -- from turn to turn.
 -- Assumes nothing.
-use native.Mathlib.Omega.{arith}
+use Rattle.wire.proofs.Usual.{arith}
 use Rattle.report_lines.proofs.main.Statement.{statement}
 use Rattle.report_lines.proofs.main.Tie as tie
 
@@ -13,7 +13,8 @@ abbrev μ-loop : tie.MeasureT-loop
 
 pub main-spec : {M : Type 1} → statement M
 main-spec = tie.close (tie.spec
-    Inv-loop μ-loop (λ c. tt) (λ c κs. tt)
+    Inv-loop μ-loop
+    (λ c. tt) (λ c κs. tt)
     (λ c. omega arith)
     (λ c. omega arith)
     (λ c. tt) (λ c. tt) (λ c. tt))

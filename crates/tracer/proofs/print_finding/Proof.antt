@@ -11,5 +11,6 @@ slice-aggregate-write-all c =
 pub print-finding-spec : {M : Type 1} → statement M
 print-finding-spec = tie.close (tie.spec
     (λ c κs. search needs) (λ c. search needs) (λ c κs. search needs) (λ c κs. search needs)
-    (λ c κs. search needs) (λ c. search needs) slice-aggregate-write-all (λ c κs. search needs)
-    (λ c. search needs))
+    (λ c κs. search needs) (λ c. search needs)
+    slice-aggregate-write-all
+    (λ c κs. search needs) (λ c. search needs))

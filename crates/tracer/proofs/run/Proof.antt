@@ -7,8 +7,7 @@ use Rattle.evaluator.proofs.FreshFormed.{fresh-length}
 use Rattle.tracer.proofs.Starting.{standing-of, grouped-of, listed-of, begun-of, size-some, count-is}
 use Rattle.tracer.proofs.Starting.{record-is}
 use Rattle.tracer.proofs.Turning.{Here, formed-here, begins, ran, call, later, Turned, turned, unrolled}
-use Rattle.tracer.proofs.Turning.{goes-on}
-use Rattle.tracer.proofs.Turning.{stops}
+use Rattle.tracer.proofs.Turning.{goes-on, stops}
 use Rattle.tracer.proofs.run.Statement.{statement}
 use Rattle.tracer.proofs.run.Tie as tie
 
@@ -150,7 +149,11 @@ pub run-spec : {M : Type 1} → statement M
 run-spec = tie.close (tie.spec
     Inv-loop μ-loop
     (λ c κs. size-some (c .before .before .before .before .before .before .before .before .pre .0))
-    loop-holds (λ c κs. search needs) errors-requires (λ c. search needs) step-requires
+    loop-holds
+    (λ c κs. search needs)
+    errors-requires
+    (λ c. search needs)
+    step-requires
     (λ c. let v = c .before .before .before .before in omega (arith, testing v, loop-of v .before .record-count .ok))
     (λ c. search needs) (λ c. search needs)
     (λ c.
@@ -159,10 +162,14 @@ run-spec = tie.close (tie.spec
     (λ c.
     let v = c .before .before .before .before .before .before .before in
     findings-long v ∙ loop-of v .loop .inv .3)
-    returns (λ c κs. search needs) print-requires (λ c. search needs)
+    returns
+    (λ c κs. search needs)
+    print-requires
+    (λ c. search needs)
     (λ c. let k = c .before .before .before in omega (arith, loop-of (stepped c) .loop .inv .1, k .known-told .given))
     (λ c. omega (arith, testing (stepped c)))
-    loop-again (λ c κs. search needs) (λ c κs. search needs)
+    loop-again
+    (λ c κs. search needs) (λ c κs. search needs)
     (λ c. c .before .before .before .loop .inv .2)
     (λ c. c .before .before .before .loop .inv .3)
     returns-2)

@@ -10,8 +10,8 @@ use Rattle.tracer.proofs.Starting.{taken-of}
 use Rattle.tracer.proofs.trace.Statement.{statement}
 use Rattle.tracer.proofs.trace.Tie as tie
 
-start-requires : tie.Need-start-requires
-start-requires c κs =
+trace-cycles-requires : tie.Need-trace-cycles-requires
+trace-cycles-requires c κs =
     let h = c .before .before .least2 .ensures in
     let b = c .before .before .before in
     let l = b .least .ensures in
@@ -47,4 +47,5 @@ trace-spec = tie.close (tie.spec
     ))))
     (λ c. search needs)
     (λ c. sym (length-take-le _ _ (omega (arith, c .before .before .before .least .ensures .0))))
-    start-requires (λ c κs. search needs) (λ c. search needs))
+    trace-cycles-requires
+    (λ c κs. search needs) (λ c. search needs))

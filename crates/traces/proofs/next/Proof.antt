@@ -12,6 +12,7 @@ next-spec = tie.close (tie.spec
     (λ c. search needs) (λ c κs. search needs) (λ c. search needs) (λ c. search needs) (λ c κs. search needs)
     (λ c. search needs) (λ c. search needs) (λ c. search needs)
     (λ c. sym (length-take-le _ _ (omega (arith, c .before .if2 .left))))
-    (λ c κs. search needs) (λ c. search needs) (λ c. search needs) fits
+    (λ c κs. search needs) (λ c. search needs) (λ c. search needs)
+    fits
     (λ c. sym (length-take-le _ _ (fits (c .before))))
     (λ c κs. search needs) (λ c. search needs) (λ c. search needs))

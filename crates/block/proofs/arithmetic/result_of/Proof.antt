@@ -38,7 +38,8 @@ result-of-spec = tie.close (tie.spec
     (λ c κs. search needs)
     (λ c.
     let d = c .before .before in
-    rw (ne-eqb _ 3 (d .if1 .left), eq-eqb _ 4 (c .before .if2 .taken)) (c .rest .ensures ∙ by-name (d .before) Sub))
+    rw (ne-eqb _ 3 (d .if1 .left), eq-eqb _ 4 (c .before .if2 .taken))
+    (c .difference .ensures ∙ by-name (d .before) Sub))
     (λ c κs. search needs)
     (λ c.
     let d = c .before .before in

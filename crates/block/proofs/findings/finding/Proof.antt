@@ -1,6 +1,6 @@
 -- `block::finding` meets its contract.
 use Rattle.block.specs.Finding.{saidOf, findingOf}
-use borrow.Author.Needs.{needs}
+use Rattle.wire.proofs.Usual.{needs}
 use Rattle.block.proofs.findings.finding.Statement.{statement}
 use Rattle.block.proofs.findings.finding.Tie as tie
 
@@ -11,7 +11,7 @@ finding-spec = tie.close (tie.spec
     (λ c κs. search needs) (λ c κs. search needs)
     (λ c.
     rw (
-      c .pack .ensures,
+      c .finding-bytes .ensures,
       c .before .second-named .ensures,
       c .before .before .first-named .ensures,
       c .before .before .before .text-id .ensures,

@@ -1,5 +1,5 @@
 -- `block::is_finding` meets its contract.
-use borrow.Author.Needs.{needs}
+use Rattle.wire.proofs.Usual.{needs}
 use Rattle.block.proofs.findings.is_finding.Statement.{statement}
 use Rattle.block.proofs.findings.is_finding.Tie as tie
 

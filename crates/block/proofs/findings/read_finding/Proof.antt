@@ -1,6 +1,6 @@
 -- `block::read_finding` meets its contract: field by field.
 use Rattle.block.specs.Finding.{findingIn}
-use borrow.Author.Needs.{needs}
+use Rattle.wire.proofs.Usual.{needs}
 use Rattle.block.proofs.findings.read_finding.Statement.{statement}
 use Rattle.block.proofs.findings.read_finding.Tie as tie
 

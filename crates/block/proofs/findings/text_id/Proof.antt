@@ -1,5 +1,5 @@
 -- `block::text_id` meets its contract: the clause of the family.
-use borrow.Author.Needs.{needs}
+use Rattle.wire.proofs.Usual.{needs}
 use Rattle.block.proofs.findings.text_id.Statement.{statement}
 use Rattle.block.proofs.findings.text_id.Tie as tie
 

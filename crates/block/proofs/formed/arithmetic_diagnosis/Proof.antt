@@ -1,5 +1,5 @@
 -- `block::arithmetic_diagnosis` meets its contract: its test of the code picks the case.
-use borrow.Author.Tests.{eq-eqb, ne-eqb}
+use Rattle.wire.proofs.Usual.{eq-eqb, ne-eqb}
 use Rattle.block.proofs.formed.arithmetic_diagnosis.Statement.{statement}
 use Rattle.block.proofs.formed.arithmetic_diagnosis.Tie as tie
 

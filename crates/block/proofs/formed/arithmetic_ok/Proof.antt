@@ -1,6 +1,6 @@
 -- `block::arithmetic_ok` meets its contract: one test after the other, as the definition has them.
 use Rattle.block.specs.Formed.{arithmeticOk}
-use borrow.Author.Needs.{needs}
+use Rattle.wire.proofs.Usual.{needs}
 use Rattle.block.proofs.formed.arithmetic_ok.Statement.{statement}
 use Rattle.block.proofs.formed.arithmetic_ok.Tie as tie
 

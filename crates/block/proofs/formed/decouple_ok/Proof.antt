@@ -1,6 +1,6 @@
 -- `block::decouple_ok` meets its contract: one test after the other, as the definition has them.
 use Rattle.block.specs.Formed.{decoupleOk}
-use borrow.Author.Needs.{needs}
+use Rattle.wire.proofs.Usual.{needs}
 use Rattle.block.proofs.formed.decouple_ok.Statement.{statement}
 use Rattle.block.proofs.formed.decouple_ok.Tie as tie
 

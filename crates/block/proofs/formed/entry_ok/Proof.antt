@@ -1,5 +1,5 @@
 -- `block::entry_ok` meets its contract.
-use mathlib.Core.Path.{refl}
+use Rattle.wire.proofs.Usual.{refl}
 use Rattle.block.specs.Formed.{entryOk}
 use Rattle.block.proofs.formed.entry_ok.Statement.{statement}
 use Rattle.block.proofs.formed.entry_ok.Tie as tie

@@ -1,6 +1,6 @@
 -- `block::formed` meets its contract: the clause of the family.
 use Rattle.block.specs.Formed.{formed}
-use borrow.Author.Needs.{needs}
+use Rattle.wire.proofs.Usual.{needs}
 use Rattle.block.proofs.formed.formed.Statement.{statement}
 use Rattle.block.proofs.formed.formed.Tie as tie
 

@@ -1,6 +1,6 @@
 -- `block::pair_time_ok` meets its contract.
 use Rattle.block.specs.Formed.{pairTimeOk}
-use borrow.Author.Needs.{needs}
+use Rattle.wire.proofs.Usual.{needs}
 use Rattle.block.proofs.formed.pair_time_ok.Statement.{statement}
 use Rattle.block.proofs.formed.pair_time_ok.Tie as tie
 

@@ -1,5 +1,5 @@
 -- `block::twohand_bits` meets its contract: one test after the other, as the definition has them.
-use mathlib.Core.Path.{refl}
+use Rattle.wire.proofs.Usual.{refl}
 use Rattle.block.specs.Formed.{twohandBits}
 use Rattle.block.proofs.formed.twohand_bits.Statement.{statement}
 use Rattle.block.proofs.formed.twohand_bits.Tie as tie

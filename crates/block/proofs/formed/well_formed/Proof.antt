@@ -1,6 +1,6 @@
 -- `block::well_formed` meets its contract: the spare bytes, and then the state that the bytes hold.
 use Rattle.block.specs.Formed.{wellFormed}
-use borrow.Author.Needs.{needs}
+use Rattle.wire.proofs.Usual.{needs}
 use Rattle.block.proofs.formed.well_formed.Statement.{statement}
 use Rattle.block.proofs.formed.well_formed.Tie as tie
 
@@ -13,7 +13,7 @@ well-formed-spec = tie.close (tie.spec
     let d = c .before .before in
     rw (
       c .formed .ensures,
-      c .before .load .ensures,
+      c .before .decoded .ensures,
       d .family-of .ensures,
       d .before .byte3 .ensures,
       d .before .before .byte2 .ensures,

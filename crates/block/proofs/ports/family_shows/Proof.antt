@@ -1,6 +1,6 @@
 -- `block::family_shows` meets its contract: the clause of the family.
 use Rattle.block.specs.Shows.{showsOf}
-use borrow.Author.Needs.{needs}
+use Rattle.wire.proofs.Usual.{needs}
 use Rattle.block.proofs.ports.family_shows.Statement.{statement}
 use Rattle.block.proofs.ports.family_shows.Tie as tie
 

@@ -1,6 +1,6 @@
 -- `block::shows` meets its contract.
 use Rattle.block.specs.Shows.{shows}
-use borrow.Author.Needs.{needs}
+use Rattle.wire.proofs.Usual.{needs}
 use Rattle.block.proofs.ports.shows.Statement.{statement}
 use Rattle.block.proofs.ports.shows.Tie as tie
 

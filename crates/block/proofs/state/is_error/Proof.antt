@@ -1,5 +1,5 @@
 -- `block::is_error` meets its contract.
-use borrow.Author.Needs.{needs}
+use Rattle.wire.proofs.Usual.{needs}
 use Rattle.block.proofs.state.is_error.Statement.{statement}
 use Rattle.block.proofs.state.is_error.Tie as tie
 

@@ -8,4 +8,4 @@ keep-spec = tie.close (tie.spec
     (λ c κs. search needs) (λ c. search needs) (λ c κs. search needs) (λ c. search needs)
     (λ c.
     let p = c .before .before .before .before .before in
-    c .before .before .put .ensures ∙ ap (sets (now (p .before .before .args .s)) 0) (p .pack .ensures)))
+    c .before .before .put .ensures ∙ ap (sets (now (p .before .before .args .s)) 0) (p .encoded .ensures)))

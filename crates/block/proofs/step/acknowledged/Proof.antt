@@ -1,5 +1,5 @@
 -- `block::acknowledged` meets its contract.
-use borrow.Author.Needs.{needs}
+use Rattle.wire.proofs.Usual.{needs}
 use Rattle.block.proofs.step.acknowledged.Statement.{statement}
 use Rattle.block.proofs.step.acknowledged.Tie as tie
 

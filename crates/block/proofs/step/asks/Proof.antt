@@ -1,5 +1,5 @@
 -- `block::asks` meets its contract.
-use borrow.Author.Needs.{needs}
+use Rattle.wire.proofs.Usual.{needs}
 use Rattle.block.proofs.step.asks.Statement.{statement}
 use Rattle.block.proofs.step.asks.Tie as tie
 

@@ -1,6 +1,6 @@
 -- `block::error_bits` meets its contract: four bits at their places fit.
 use Rattle.block.specs.Twohand.{errorBits}
-use borrow.Author.Needs.{needs}
+use Rattle.wire.proofs.Usual.{needs}
 use Rattle.block.proofs.twohand.error_bits.Statement.{statement}
 use Rattle.block.proofs.twohand.error_bits.Tie as tie
 

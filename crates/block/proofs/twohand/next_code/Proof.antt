@@ -1,5 +1,5 @@
 -- `block::next_code` meets its contract: its tests, in the order of the definition, pick the case.
-use borrow.Author.Tests.{eq-eqb, ne-eqb}
+use Rattle.wire.proofs.Usual.{eq-eqb, ne-eqb}
 use Rattle.block.specs.Twohand.{nextCode}
 use Rattle.block.proofs.twohand.next_code.Statement.{statement}
 use Rattle.block.proofs.twohand.next_code.Tie as tie

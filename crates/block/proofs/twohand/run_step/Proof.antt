@@ -47,11 +47,13 @@ unfolding decode encode entersFrom
 run-step-spec = tie.close (tie.spec
     (λ c κs. search needs) (λ c κs. search needs) (λ c κs. search needs) (λ c κs. search needs)
     (λ c κs. search needs) (λ c κs. search needs) (λ c κs. search needs) (λ c κs. search needs)
-    (λ c κs. search needs) (λ c. search needs) stays (λ c κs. search needs) (λ c κs. search needs)
-    (λ c κs. search needs) (λ c κs. search needs) (λ c. search needs)
+    (λ c κs. search needs) (λ c. search needs)
+    stays
+    (λ c κs. search needs) (λ c κs. search needs) (λ c κs. search needs) (λ c κs. search needs)
+    (λ c. search needs)
     (λ c.
     let k = c .before .before .before in
     let r = k .before .before in (
-      k .keep2 .ensures ∙ rw (r .twohand-run .ensures, r .before .load .ensures),
-      c .entered .ensures ∙ rw (r .twohand-run .ensures, r .before .load .ensures),
+      k .keep2 .ensures ∙ rw (r .twohand-run .ensures, r .before .decoded .ensures),
+      c .entered .ensures ∙ rw (r .twohand-run .ensures, r .before .decoded .ensures),
     )))

@@ -1,6 +1,6 @@
 -- `block::time_since` meets its contract: its test picks the case.
 use Rattle.block.specs.Twohand.{timeSince}
-use borrow.Author.Needs.{needs}
+use Rattle.wire.proofs.Usual.{needs}
 use Rattle.block.proofs.twohand.time_since.Statement.{statement}
 use Rattle.block.proofs.twohand.time_since.Tie as tie
 

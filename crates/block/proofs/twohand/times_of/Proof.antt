@@ -1,5 +1,5 @@
 -- `block::times_of` meets its contract: field by field.
-use borrow.Author.Needs.{needs}
+use Rattle.wire.proofs.Usual.{needs}
 use Rattle.block.proofs.twohand.times_of.Statement.{statement}
 use Rattle.block.proofs.twohand.times_of.Tie as tie
 

@@ -1,6 +1,6 @@
 -- `block::twohand_fault` meets its contract: one test after the other, as the definition has them.
 use Rattle.block.specs.Twohand.{twohandFault}
-use borrow.Author.Needs.{needs}
+use Rattle.wire.proofs.Usual.{needs}
 use Rattle.block.proofs.twohand.twohand_fault.Statement.{statement}
 use Rattle.block.proofs.twohand.twohand_fault.Tie as tie
 

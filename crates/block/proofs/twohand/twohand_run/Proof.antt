@@ -1,6 +1,6 @@
 -- `block::twohand_run` meets its contract.
 use Rattle.block.specs.Twohand.{twohandRun}
-use borrow.Author.Needs.{needs}
+use Rattle.wire.proofs.Usual.{needs}
 use Rattle.block.proofs.twohand.twohand_run.Statement.{statement}
 use Rattle.block.proofs.twohand.twohand_run.Tie as tie
 

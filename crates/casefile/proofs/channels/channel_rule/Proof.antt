@@ -1,7 +1,7 @@
 -- `casefile::channels::channel_rule` meets its contract: the clause of the family.
 use Rattle.casefile.specs.Rules.{channelRuleOf}
 use Rattle.casefile.proofs.Families.{told}
-use borrow.Author.Needs.{needs}
+use Rattle.wire.proofs.Usual.{needs}
 use Rattle.casefile.proofs.channels.channel_rule.Statement.{statement}
 use Rattle.casefile.proofs.channels.channel_rule.Tie as tie
 

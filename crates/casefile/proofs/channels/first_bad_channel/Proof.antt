@@ -29,7 +29,8 @@ test c =
 
 pub first-bad-channel-spec : {M : Type 1} → statement M
 first-bad-channel-spec = tie.close (tie.spec
-    Inv-loop μ-loop (λ c κs. search needs)
+    Inv-loop μ-loop
+    (λ c κs. search needs)
     (λ c. begin _ _)
     (λ c. search needs) (λ c. search needs) (λ c. search needs)
     (λ c. omega (arith, c .before .before .before .before .before .before .pre .0))

@@ -35,6 +35,7 @@ mark-blocks-spec = tie.close (tie.spec
     marking-begin (blockPasses B) (blockCount B) (now (a .args .marks)) (a .pre))
     (λ c κs. search needs)
     (λ c κs. c .before .before .before .loop .inv .long)
-    (λ c. search needs) (λ c. search needs) loop-again
+    (λ c. search needs) (λ c. search needs)
+    loop-again
     (λ c. c .before .loop .inv .long ∙ sym (c .before .before .before .before .pre))
     (λ c. marking-end (c .before .loop .inv) (c .loop-test .left)))

@@ -32,6 +32,7 @@ mark-links-spec = tie.close (tie.spec
     marking-begin (linkPasses (now (a .args .r))) linkCount (now (a .args .marks)) (a .pre))
     (λ c κs. search needs)
     (λ c κs. c .before .before .before .loop .inv .long)
-    (λ c. search needs) (λ c. search needs) loop-again
+    (λ c. search needs) (λ c. search needs)
+    loop-again
     (λ c. c .before .loop .inv .long ∙ sym (c .before .before .before .before .pre))
     (λ c. marking-end (c .before .loop .inv) (c .loop-test .left)))

@@ -39,6 +39,7 @@ mark-outputs-spec = tie.close (tie.spec
     marking-begin (outputPasses O) (outputCount O) (now (a .args .marks)) (a .pre))
     (λ c κs. search needs) (λ c κs. search needs) (λ c κs. search needs)
     (λ c κs. c .before .before .before .before .before .loop .inv .long)
-    (λ c. search needs) (λ c. search needs) loop-again
+    (λ c. search needs) (λ c. search needs)
+    loop-again
     (λ c. c .before .loop .inv .long ∙ sym (c .before .before .before .before .pre))
     (λ c. marking-end (c .before .loop .inv) (c .loop-test .left)))

@@ -1,6 +1,6 @@
 -- `casefile::links::hand_active` meets its contract: a port past the last, or its link and its bit of the mask.
+use Rattle.wire.proofs.Usual.{needs}
 use borrow.Author.Tests.{le-leb, lt-leb}
-use borrow.Author.Needs.{needs}
 use Rattle.casefile.specs.Rules.{handActive}
 use Rattle.casefile.proofs.links.hand_active.Statement.{statement}
 use Rattle.casefile.proofs.links.hand_active.Tie as tie

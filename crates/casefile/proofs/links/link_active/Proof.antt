@@ -1,7 +1,7 @@
 -- `casefile::links::link_active` meets its contract: the clause of the family.
 use Rattle.casefile.specs.Rules.{linkActiveOf}
 use Rattle.casefile.proofs.Families.{told}
-use borrow.Author.Needs.{needs}
+use Rattle.wire.proofs.Usual.{needs}
 use Rattle.casefile.proofs.links.link_active.Statement.{statement}
 use Rattle.casefile.proofs.links.link_active.Tie as tie
 

@@ -1,8 +1,7 @@
 -- `casefile::links::link_known` meets its contract: the kind of the link says which case of `linkKnown` holds.
 use Rattle.wire.proofs.Usual.{ap, _∙_, _&&_, eqb, ltb, needs, now}
 use Rattle.wire.proofs.Places.{is, is-not}
-use Rattle.project.specs.Project.{kindIn}
-use Rattle.project.specs.Project.{kindOf}
+use Rattle.project.specs.Project.{kindIn, kindOf}
 use Rattle.casefile.specs.Rules.{linkKnown}
 use Rattle.kind.specs.Ports.{portsIn, portsOut}
 use Rattle.casefile.proofs.links.link_known.Statement.{statement}
@@ -50,6 +49,9 @@ returns-3 c =
 pub link-known-spec : {M : Type 1} → statement M
 unfolding linkKnown
 link-known-spec = tie.close (tie.spec
-    (λ c κs. search needs) (λ c κs. search needs) (λ c κs. search needs) returns (λ c κs. search needs)
-    (λ c κs. search needs) (λ c. search needs) returns-2 (λ c. search needs) (λ c κs. search needs)
-    (λ c. search needs) (λ c κs. search needs) (λ c κs. search needs) returns-3)
+    (λ c κs. search needs) (λ c κs. search needs) (λ c κs. search needs)
+    returns
+    (λ c κs. search needs) (λ c κs. search needs) (λ c. search needs)
+    returns-2
+    (λ c. search needs) (λ c κs. search needs) (λ c. search needs) (λ c κs. search needs) (λ c κs. search needs)
+    returns-3)

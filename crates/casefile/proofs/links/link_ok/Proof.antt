@@ -31,4 +31,5 @@ unfolding linkOk
 link-ok-spec = tie.close (tie.spec
     (λ c κs. search needs)
     (λ c. rw (bad (known (c .before)) (c .if1 .taken)))
-    (λ c κs. search needs) (λ c κs. search needs) (λ c κs. search needs) returns-2)
+    (λ c κs. search needs) (λ c κs. search needs) (λ c κs. search needs)
+    returns-2)

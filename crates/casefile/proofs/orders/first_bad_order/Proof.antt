@@ -52,5 +52,6 @@ first-bad-order-spec = tie.close (tie.spec
     let h = d .before .before .before .loop in
     hit (h .inv .0) (seen-before _ _ _ _ (h .inv .1) (number d) (e .if1 .left) (few e) (c .if2 .taken)) refl)
     (λ c. few (c .before))
-    (λ c. search needs) (λ c. search needs) loop-again
+    (λ c. search needs) (λ c. search needs)
+    loop-again
     (λ c. done (c .before .loop .inv .0) (c .loop-test .left)))

@@ -1,5 +1,5 @@
 -- `casefile::records::block_rule` meets its contract: one test after the other.
-use borrow.Author.Needs.{needs}
+use Rattle.wire.proofs.Usual.{needs}
 use Rattle.casefile.specs.Rules.{blockRule}
 use Rattle.casefile.proofs.records.block_rule.Statement.{statement}
 use Rattle.casefile.proofs.records.block_rule.Tie as tie

@@ -1,5 +1,5 @@
 -- `casefile::records::blocks_size_ok` meets its contract: one test after the other.
-use mathlib.Core.Path.{refl}
+use Rattle.wire.proofs.Usual.{refl}
 use Rattle.project.specs.Project.{blockCount}
 use Rattle.casefile.specs.Rules.{blocksSizeOk}
 use Rattle.casefile.proofs.records.blocks_size_ok.Statement.{statement}

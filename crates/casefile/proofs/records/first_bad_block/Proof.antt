@@ -23,13 +23,14 @@ test c =
     let l = c .before .before .before in
     let h = l .before in
     c .block-rule .ensures
-    ∙ (λ i. blockRule (h .before .device-of .ensures i) (h .group-count .ensures i)
+    ∙ (λ i. blockRule (h .before .device-in .ensures i) (h .group-count .ensures i)
     (c .before .block-record .ensures i))
 
 pub first-bad-block-spec : {M : Type 1} → statement M
 unfolding blockCount
 first-bad-block-spec = tie.close (tie.spec
-    Inv-loop μ-loop (λ c κs. search needs) (λ c κs. search needs)
+    Inv-loop μ-loop
+    (λ c κs. search needs) (λ c κs. search needs)
     (λ c. begin _ _)
     (λ c κs. search needs) (λ c κs. search needs)
     (λ c. hit (c .before .before .before .before .loop .inv) (test (c .before)) (c .if1 .taken))

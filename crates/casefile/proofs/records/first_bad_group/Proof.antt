@@ -22,12 +22,13 @@ test : (c : tie.After-group-rule Inv-loop μ-loop) →
 unfolding groupRecordOk
 test c =
     let l = c .before .before .before in
-    let d = l .before .before .device-of .ensures in
+    let d = l .before .before .device-in .ensures in
     c .group-rule .ensures ∙ (λ i. groupRule (d i) (c .before .run-linked .ensures i))
 
 pub first-bad-group-spec : {M : Type 1} → statement M
 first-bad-group-spec = tie.close (tie.spec
-    Inv-loop μ-loop (λ c κs. search needs) (λ c κs. search needs)
+    Inv-loop μ-loop
+    (λ c κs. search needs) (λ c κs. search needs)
     (λ c. begin _ _)
     (λ c κs. search needs) (λ c κs. search needs)
     (λ c. hit (c .before .before .before .before .loop .inv) (test (c .before)) (c .if1 .taken))

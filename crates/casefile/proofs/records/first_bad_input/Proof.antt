@@ -27,7 +27,8 @@ test c =
 pub first-bad-input-spec : {M : Type 1} → statement M
 unfolding inputCount
 first-bad-input-spec = tie.close (tie.spec
-    Inv-loop μ-loop (λ c κs. search needs)
+    Inv-loop μ-loop
+    (λ c κs. search needs)
     (λ c. begin _ _)
     (λ c κs. search needs) (λ c κs. search needs)
     (λ c. hit (c .before .before .before .before .loop .inv) (test (c .before)) (c .if1 .taken))

@@ -32,7 +32,8 @@ test c =
 pub first-bad-output-spec : {M : Type 1} → statement M
 unfolding blockCount outputCount
 first-bad-output-spec = tie.close (tie.spec
-    Inv-loop μ-loop (λ c κs. search needs)
+    Inv-loop μ-loop
+    (λ c κs. search needs)
     (λ c. begin _ _)
     (λ c κs. search needs) (λ c κs. search needs) (λ c. search needs) (λ c κs. search needs)
     (λ c κs. search needs)

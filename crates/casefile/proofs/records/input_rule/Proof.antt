@@ -1,5 +1,5 @@
 -- `casefile::records::input_rule` meets its contract: one test after the other.
-use borrow.Author.Needs.{needs}
+use Rattle.wire.proofs.Usual.{needs}
 use Rattle.casefile.specs.Rules.{inputRule}
 use Rattle.casefile.proofs.records.input_rule.Statement.{statement}
 use Rattle.casefile.proofs.records.input_rule.Tie as tie

@@ -1,5 +1,5 @@
 -- `casefile::records::inputs_size_ok` meets its contract: one test after the other.
-use mathlib.Core.Path.{refl}
+use Rattle.wire.proofs.Usual.{refl}
 use Rattle.project.specs.Project.{inputCount}
 use Rattle.casefile.specs.Rules.{inputsSizeOk}
 use Rattle.casefile.proofs.records.inputs_size_ok.Statement.{statement}

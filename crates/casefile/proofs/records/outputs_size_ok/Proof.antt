@@ -1,5 +1,5 @@
 -- `casefile::records::outputs_size_ok` meets its contract: one test after the other.
-use mathlib.Core.Path.{refl}
+use Rattle.wire.proofs.Usual.{refl}
 use Rattle.project.specs.Project.{outputCount}
 use Rattle.casefile.specs.Rules.{outputsSizeOk}
 use Rattle.casefile.proofs.records.outputs_size_ok.Statement.{statement}

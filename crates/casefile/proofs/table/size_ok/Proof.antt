@@ -1,5 +1,5 @@
 -- `casefile::table::size_ok` meets its contract.
-use mathlib.Core.Path.{refl}
+use Rattle.wire.proofs.Usual.{refl}
 use Rattle.casefile.specs.Rules.{sizeOk}
 use Rattle.casefile.proofs.table.size_ok.Statement.{statement}
 use Rattle.casefile.proofs.table.size_ok.Tie as tie

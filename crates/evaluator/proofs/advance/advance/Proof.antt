@@ -9,11 +9,11 @@ use Rattle.evaluator.proofs.advance.advance.Tie as tie
 abbrev start-of : tie.After-decide → tie.Start
 start-of c = c .before .before .before .before .before .before .before .before .before .before .before .before .before
 
-abbrev decided-of : tie.After-run → tie.After-decide
+abbrev decided-of : tie.After-take-turns → tie.After-decide
 decided-of c = c .before .before .before .before .before .before
 
-run-requires : tie.Need-run-requires
-run-requires c κs =
+take-turns-requires : tie.Need-take-turns-requires
+take-turns-requires c κs =
     let d = c .before .before .before .before .before in
     let s = start-of d in
     let a = s .args in
@@ -27,11 +27,11 @@ returns c =
     let d = decided-of r in
     let s = start-of d in
     let a = s .args in
-    let none = r .run .ensures .1 .1 (not-true (r .run .result) (c .if1 .taken)) in (
-      ran-state (s .pre) _ _ (d .decide .ensures .0) (d .decide .ensures .1) _ (r .run .ensures .0),
+    let none = r .take-turns .ensures .1 .1 (not-true (r .take-turns .result) (c .if1 .taken)) in (
+      ran-state (s .pre) _ _ (d .decide .ensures .0) (d .decide .ensures .1) _ (r .take-turns .ensures .0),
       (
-        no-findings (s .pre) _ _ (d .decide .ensures .0) (d .decide .ensures .1) _ (r .run .ensures .1 .0) none,
-        no-count (s .pre) _ _ (d .decide .ensures .0) (d .decide .ensures .1) _ (r .run .ensures .1 .0) none,
+        no-findings (s .pre) _ _ (d .decide .ensures .0) (d .decide .ensures .1) _ (r .take-turns .ensures .1 .0) none,
+        no-count (s .pre) _ _ (d .decide .ensures .0) (d .decide .ensures .1) _ (r .take-turns .ensures .1 .0) none,
       ),
     )
 
@@ -41,7 +41,7 @@ pack-requires c κs =
     let d = decided-of r in
     let s = start-of d in
     let a = s .args in
-    packable (s .pre) _ _ (d .decide .ensures .0) (d .decide .ensures .1) _ (r .run .ensures .1 .0)
+    packable (s .pre) _ _ (d .decide .ensures .0) (d .decide .ensures .1) _ (r .take-turns .ensures .1 .0)
 
 -- some block may have
 returns-2 : tie.Need-returns-2
@@ -51,11 +51,11 @@ returns-2 c =
     let d = decided-of r in
     let s = start-of d in
     let a = s .args in (
-      ran-state (s .pre) _ _ (d .decide .ensures .0) (d .decide .ensures .1) _ (r .run .ensures .0),
+      ran-state (s .pre) _ _ (d .decide .ensures .0) (d .decide .ensures .1) _ (r .take-turns .ensures .0),
       (
-        all-findings (s .pre) _ _ (d .decide .ensures .0) (d .decide .ensures .1) _ (r .run .ensures .1 .0) _
+        all-findings (s .pre) _ _ (d .decide .ensures .0) (d .decide .ensures .1) _ (r .take-turns .ensures .1 .0) _
             (p .pack .ensures .0),
-        all-count (s .pre) _ _ (d .decide .ensures .0) (d .decide .ensures .1) _ (r .run .ensures .1 .0) _
+        all-count (s .pre) _ _ (d .decide .ensures .0) (d .decide .ensures .1) _ (r .take-turns .ensures .1 .0) _
             (p .pack .ensures .1),
       ),
     )
@@ -69,5 +69,9 @@ advance-spec = tie.close (tie.spec
       few-heads (s .pre),
       heads-fit (s .pre),
     ))
-    (λ c. search needs) run-requires (λ c. search needs) (λ c. search needs) returns pack-requires
-    (λ c. search needs) (λ c. search needs) returns-2)
+    (λ c. search needs)
+    take-turns-requires
+    (λ c. search needs) (λ c. search needs)
+    returns pack-requires
+    (λ c. search needs) (λ c. search needs)
+    returns-2)

@@ -39,7 +39,8 @@ whole-cycle-spec = tie.close (tie.spec
       in-place (s .pre) (now (a .state)) (s .pre .state),
       in-groups (s .pre),
     ))
-    (λ c. search needs) (λ c. search needs) advance-requires
+    (λ c. search needs) (λ c. search needs)
+    advance-requires
     (λ c κs.
     let v = c .before .before .before .before .before .before in
     let k = v .before .before .before .before .before .before .before in
@@ -53,4 +54,5 @@ whole-cycle-spec = tie.close (tie.spec
         outputs-long (s .pre),
       ),
     ))
-    (λ c. search needs) (λ c. search needs) (λ c. search needs) returns)
+    (λ c. search needs) (λ c. search needs) (λ c. search needs)
+    returns)

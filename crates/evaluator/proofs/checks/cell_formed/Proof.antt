@@ -24,4 +24,5 @@ cell-formed-spec = tie.close (tie.spec
     (λ c. omega (arith, small (c .before .before .before)))
     (λ c. omega (arith, small (c .before .before .before)))
     (λ c. omega (arith, small (c .before .before .before)))
-    (λ c κs. search needs) (λ c κs. search needs) (λ c κs. search needs) (λ c κs. search needs) returns)
+    (λ c κs. search needs) (λ c κs. search needs) (λ c κs. search needs) (λ c κs. search needs)
+    returns)

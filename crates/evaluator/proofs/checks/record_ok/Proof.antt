@@ -4,7 +4,7 @@ use Rattle.wire.proofs.Usual.{_≡_, sym, ap, _∙_, ℕ, _+_, _*_, _≤_, arit
 use Rattle.wire.proofs.Usual.{length, now}
 use lib.Dec.{leb}
 use Rattle.wire.specs.Places.{firstBad, all}
-use Rattle.project.specs.Project.{recordSize, inputCount, device, headSize, inputSize, wordSize}
+use Rattle.project.specs.Project.{recordSize, inputCount, headSize, inputSize, wordSize}
 use Rattle.evaluator.specs.Answer.{inputFits, recordOk}
 use Rattle.evaluator.proofs.checks.record_ok.Statement.{statement}
 use Rattle.evaluator.proofs.checks.record_ok.Tie as tie
@@ -48,7 +48,8 @@ returns-2 c =
 
 pub record-ok-spec : {M : Type 1} → statement M
 record-ok-spec = tie.close (tie.spec
-    returns (λ c κs. search needs)
+    returns
+    (λ c κs. search needs)
     (λ c κs.
     let s = c .before .before .before .before .before in
     ((s .pre .device, s .pre .groups), s .pre .fewGroups))

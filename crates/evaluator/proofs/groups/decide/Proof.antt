@@ -2,7 +2,7 @@
 -- + 1 are decided (`Deciding`).
 use Rattle.wire.proofs.Usual.{_≡_, ap₂, _∙_, subst, _-_, _<_, arith, needs, now}
 use Rattle.project.specs.Project.{device}
-use Rattle.evaluator.specs.Groups.{runsWith, phaseFrom, phaseOf, pends}
+use Rattle.evaluator.specs.Groups.{runsWith, phaseFrom, phaseOf}
 use Rattle.evaluator.specs.Asks.{groupWith}
 use Rattle.evaluator.proofs.Deciding.{Deciding, deciding-start, new-is, deciding-turn, deciding-state}
 use Rattle.evaluator.proofs.Deciding.{deciding-phases}
@@ -16,8 +16,8 @@ Inv-loop groups h rec errors state₀ device phases₀ g₀ state phases g =
 abbrev μ-loop : tie.MeasureT-loop
 μ-loop groups h rec errors state₀ device phases₀ g₀ state phases g = h - g
 
-abbrev device-of : tie.At-loop Inv-loop μ-loop → tie.After-device-of Inv-loop μ-loop
-device-of c = c .before
+abbrev device-in : tie.At-loop Inv-loop μ-loop → tie.After-device-in Inv-loop μ-loop
+device-in c = c .before
 
 abbrev start-of : tie.At-loop Inv-loop μ-loop → tie.Start Inv-loop μ-loop
 start-of c = c .before .before .before .before .before .before
@@ -36,7 +36,7 @@ new-byte c =
     let a = s .args in
     new-is (now (a .errors)) (now (a .groups)) (now (a .rec)) (now (a .state)) (a .h) (l .loop .state) (l .loop .phases)
     (l .loop .g) (l .loop .inv) (y .before .before .loop-test .taken) (s .pre .0) (s .pre .1) _ _ _ _ _ _
-    (device-of l .device-of .ensures) (y .before .byte .ensures) (y .byte2 .ensures) (p .pends .ensures)
+    (device-in l .device-in .ensures) (y .before .byte .ensures) (y .byte2 .ensures) (p .pends .ensures)
     (k .err-ack .ensures) (c .group-next .ensures)
 
 -- and its phase
@@ -95,7 +95,8 @@ small c = omega (arith, turning c, start-of (loop-of c) .pre .0)
 
 pub decide-spec : {M : Type 1} → statement M
 decide-spec = tie.close (tie.spec
-    Inv-loop μ-loop (λ c κs. search needs)
+    Inv-loop μ-loop
+    (λ c κs. search needs)
     (λ c. deciding-start _ _ _ _ _)
     (λ c. let s = start-of (c .before) in omega (arith, c .loop-test .taken, s .pre .0))
     (λ c κs. search needs) (λ c κs. search needs) (λ c κs. search needs) (λ c κs. search needs)

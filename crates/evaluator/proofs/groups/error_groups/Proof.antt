@@ -89,7 +89,8 @@ error-groups-spec = tie.close (tie.spec
     let t = c .before .before .before .before .before in
     let s = start-of (t .before) in
     rw (group-is c) (s .pre .1 .groups (t .before .loop .b) (t .loop-test .taken)))
-    (λ c. search needs) (λ c. search needs) loop-again
+    (λ c. search needs) (λ c. search needs)
+    loop-again
     (λ c.
     let l = c .before in
     let s = start-of l in

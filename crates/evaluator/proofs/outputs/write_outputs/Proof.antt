@@ -3,7 +3,6 @@ use Rattle.wire.proofs.Usual.{_≡_, refl, ap, _∙_, List, ℕ, _-_, _*_, _≤
 use Rattle.wire.specs.Words.{bytes4}
 use Rattle.wire.proofs.Records.{gathered, gathered-none, gathered-length, gathered-more, gathered-all}
 use Rattle.project.specs.Project.{outputBlockIn, outputPortIn, rowOf, outputRecord, outputBlock, wordSize}
-use Rattle.casefile.proofs.Facts.{output-block}
 use Rattle.evaluator.specs.State.{cell}
 use Rattle.evaluator.specs.Cycle.{portShows}
 use Rattle.evaluator.specs.Asks.{outputShown}
@@ -99,7 +98,8 @@ write-outputs-spec = tie.close (tie.spec
       small
           (start-of (c .before .before .before .before .before .before)),
     ))
-    (λ c κs. search needs) (λ c. search needs) (λ c. search needs) loop-again
+    (λ c κs. search needs) (λ c. search needs) (λ c. search needs)
+    loop-again
     (λ c. long (c .before))
     (λ c.
     let l = c .before in

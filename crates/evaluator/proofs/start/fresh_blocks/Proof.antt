@@ -54,6 +54,7 @@ fresh-blocks-spec = tie.close (tie.spec
     (λ c. (search needs, gathered-none stateSize bytes _))
     (λ c κs. search needs)
     (λ c. let l = c .before .before .before in omega (arith, kept l, l .before .before .pre))
-    (λ c. search needs) (λ c κs. search needs) (λ c. search needs) (λ c. search needs) loop-again
+    (λ c. search needs) (λ c κs. search needs) (λ c. search needs) (λ c. search needs)
+    loop-again
     (λ c. kept (c .before))
     returns)

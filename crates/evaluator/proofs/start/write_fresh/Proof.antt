@@ -36,4 +36,5 @@ returns c =
 pub write-fresh-spec : {M : Type 1} → statement M
 write-fresh-spec = tie.close (tie.spec
     (λ c κs. search needs) (λ c. search needs) (λ c. search needs) (λ c. search needs) (λ c κs. search needs)
-    (λ c. search needs) returns)
+    (λ c. search needs)
+    returns)

@@ -9,10 +9,8 @@ use Rattle.evaluator.specs.Net.{reads}
 use Rattle.evaluator.specs.State.{cell}
 use Rattle.evaluator.specs.Cycle.{wires}
 use Rattle.evaluator.specs.Asks.{turned, wordsOf, Named}
-use Rattle.evaluator.specs.Groups.{phase}
 use Rattle.evaluator.proofs.Turning.{lentTo, left-is, left-long, entering-is, cell-left, noted-not, noted-is}
-use Rattle.evaluator.proofs.Turning.{word-first}
-use Rattle.evaluator.proofs.Turning.{word-second, arithmetic-turned, found-read}
+use Rattle.evaluator.proofs.Turning.{word-first, word-second, arithmetic-turned, found-read}
 use Rattle.evaluator.proofs.turns.arithmetic_turn.Statement.{statement}
 use Rattle.evaluator.proofs.turns.arithmetic_turn.Tie as tie
 
@@ -100,7 +98,8 @@ arithmetic-turn-spec = tie.close (tie.spec
     (start-of b .pre .0, rw (c .source-of2 .ensures) (linked b 1)))
     (λ c κs. search needs) (λ c κs. search needs) (λ c. search needs) (λ c. search needs) (λ c. search needs)
     (λ c. search needs) (λ c. search needs) (λ c. search needs) (λ c. search needs) (λ c κs. search needs)
-    (λ c. search needs) returns
+    (λ c. search needs)
+    returns
     (λ c κs.
     let t = c .before .before .before .before .before in
     let k = t .before .before in
@@ -108,4 +107,5 @@ arithmetic-turn-spec = tie.close (tie.spec
     let p = s .pre .1 .1 .1 .0 in
     let long = left-long _ _ _ _ _ _ (made k) (p .1 .1) _ (t .arithmetic-step .ensures .0) in
     (p .0, (p .1 .0, omega (arith, p .1 .1, long))))
-    (λ c. search needs) (λ c. search needs) returns-2)
+    (λ c. search needs) (λ c. search needs)
+    returns-2)

@@ -5,7 +5,6 @@ use Rattle.block.specs.Step.{decoupleStep, decoupleBytes}
 use Rattle.block.specs.State.{entersFrom}
 use Rattle.block.proofs.Enters.{holds-enters}
 use Rattle.evaluator.specs.Asks.{turned}
-use Rattle.evaluator.specs.Groups.{phase}
 use Rattle.evaluator.proofs.Turning.{lentTo, left-is, entering-is, decouple-turned}
 use Rattle.evaluator.proofs.turns.decouple_turn.Statement.{statement}
 use Rattle.evaluator.proofs.turns.decouple_turn.Tie as tie

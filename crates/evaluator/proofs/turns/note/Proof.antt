@@ -2,7 +2,6 @@
 use Rattle.wire.proofs.Usual.{_∙_, _*_, _<_, arith, needs, sets, now}
 use native.Mathlib.Nat.{mod-eq-of-lt}
 use Rattle.block.specs.Finding.{findingSize, findingOf}
-use Rattle.evaluator.specs.Cycle.{finding}
 use Rattle.evaluator.proofs.Reading.{cell-is}
 use Rattle.evaluator.proofs.turns.note.Statement.{statement}
 use Rattle.evaluator.proofs.turns.note.Tie as tie
@@ -28,4 +27,5 @@ pub note-spec : {M : Type 1} → statement M
 note-spec = tie.close (tie.spec
     (λ c. search needs) (λ c. search needs) (λ c. search needs) (λ c. search needs) (λ c κs. search needs)
     (λ c κs. search needs) (λ c κs. search needs) (λ c κs. search needs) (λ c. search needs) (λ c. search needs)
-    (λ c κs. search needs) (λ c. search needs) returns)
+    (λ c κs. search needs) (λ c. search needs)
+    returns)

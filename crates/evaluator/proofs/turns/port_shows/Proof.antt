@@ -30,4 +30,5 @@ port-shows-spec = tie.close (tie.spec
     (λ c. search needs)
     (λ c. omega (arith, few c, start-of (c .before) .fits .a))
     (λ c κs. let s = start-of (c .before) in cell-there (s .pre .0) _ (s .pre .1))
-    (λ c κs. search needs) (λ c κs. search needs) (λ c κs. search needs) returns)
+    (λ c κs. search needs) (λ c κs. search needs) (λ c κs. search needs)
+    returns)

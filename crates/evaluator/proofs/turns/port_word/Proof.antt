@@ -35,4 +35,5 @@ port-word-spec = tie.close (tie.spec
     (λ c κs. search needs) (λ c. search needs)
     (λ c κs. let s = start-of (c .before .before .before) in
     (s .pre .0, s .pre .1 .output _ _ (c .before .source2 .given .1)))
-    (λ c. search needs) returns-2 returns-3)
+    (λ c. search needs)
+    returns-2 returns-3)

@@ -55,6 +55,8 @@ reading-turn-spec = tie.close (tie.spec
     let p = start-of f .pre in
     (p .0, (p .1 .0, (p .1 .1 .0, (p .1 .1 .1, sym (family f) ∙ k .enum-told3 .given .1)))))
     (λ c. search needs) (λ c. search needs) (λ c. search needs) (λ c. search needs) (λ c. search needs)
-    (λ c. search needs) (λ c. search needs) (λ c. search needs) (λ c κs. search needs) (λ c. search needs) returns
+    (λ c. search needs) (λ c. search needs) (λ c. search needs) (λ c κs. search needs) (λ c. search needs)
+    returns
     (λ c. search needs) (λ c. search needs) (λ c. search needs) (λ c. search needs) (λ c. search needs)
-    (λ c. search needs) (λ c. search needs) returns-4)
+    (λ c. search needs) (λ c. search needs)
+    returns-4)

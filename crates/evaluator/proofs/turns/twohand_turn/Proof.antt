@@ -7,7 +7,6 @@ use Rattle.block.specs.Inputs.{effectiveMask, bitsFrom}
 use Rattle.block.specs.Step.{twohandBytes}
 use Rattle.block.specs.Finding.{findingOf}
 use Rattle.evaluator.specs.Asks.{turned, wordsOf}
-use Rattle.evaluator.specs.Groups.{phase}
 use Rattle.evaluator.proofs.Turning.{lentTo, left-is, entering-is, cell-left, noted-not, noted-is, hands-first}
 use Rattle.evaluator.proofs.Turning.{hands-second, twohand-turned, found-read}
 use Rattle.evaluator.proofs.turns.twohand_turn.Statement.{statement}
@@ -73,5 +72,7 @@ pub twohand-turn-spec : {M : Type 1} → statement M
 twohand-turn-spec = tie.close (tie.spec
     (λ c κs. search needs) (λ c κs. search needs) (λ c κs. search needs) (λ c κs. search needs)
     (λ c. search needs) (λ c. search needs) (λ c. search needs) (λ c. search needs) (λ c. search needs)
-    (λ c. search needs) (λ c. search needs) (λ c κs. search needs) (λ c. search needs) returns
-    (λ c κs. search needs) (λ c. search needs) (λ c. search needs) returns-2)
+    (λ c. search needs) (λ c. search needs) (λ c κs. search needs) (λ c. search needs)
+    returns
+    (λ c κs. search needs) (λ c. search needs) (λ c. search needs)
+    returns-2)

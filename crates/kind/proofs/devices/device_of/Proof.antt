@@ -1,5 +1,5 @@
 -- `kind::device_of` meets its contract: the tests of the byte pick the row.
-use borrow.Author.Tests.{eq-eqb, ne-eqb}
+use Rattle.wire.proofs.Usual.{eq-eqb, ne-eqb}
 use Rattle.kind.specs.Devices.{deviceOf}
 use Rattle.kind.proofs.devices.device_of.Statement.{statement}
 use Rattle.kind.proofs.devices.device_of.Tie as tie

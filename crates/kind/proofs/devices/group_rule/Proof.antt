@@ -1,5 +1,5 @@
 -- `kind::group_rule` meets its contract.
-use borrow.Author.Needs.{needs}
+use Rattle.wire.proofs.Usual.{needs}
 use Rattle.kind.proofs.devices.group_rule.Statement.{statement}
 use Rattle.kind.proofs.devices.group_rule.Tie as tie
 

@@ -1,5 +1,5 @@
 -- `kind::is_pending` meets its contract.
-use borrow.Author.Needs.{needs}
+use Rattle.wire.proofs.Usual.{needs}
 use Rattle.kind.proofs.devices.is_pending.Statement.{statement}
 use Rattle.kind.proofs.devices.is_pending.Tie as tie
 

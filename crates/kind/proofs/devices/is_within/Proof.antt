@@ -1,5 +1,5 @@
 -- `kind::is_within` meets its contract.
-use mathlib.Core.Path.{refl}
+use Rattle.wire.proofs.Usual.{refl}
 use Rattle.kind.specs.Masks.{isWithin}
 use Rattle.kind.proofs.devices.is_within.Statement.{statement}
 use Rattle.kind.proofs.devices.is_within.Tie as tie

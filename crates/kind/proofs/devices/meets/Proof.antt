@@ -1,5 +1,5 @@
 -- `kind::meets` meets its contract.
-use mathlib.Core.Path.{refl}
+use Rattle.wire.proofs.Usual.{refl}
 use Rattle.kind.specs.Masks.{meets}
 use Rattle.kind.proofs.devices.meets.Statement.{statement}
 use Rattle.kind.proofs.devices.meets.Tie as tie

@@ -1,5 +1,5 @@
 -- `kind::family_of` meets its contract: the tests of the byte pick the family.
-use borrow.Author.Tests.{eq-eqb, ne-eqb}
+use Rattle.wire.proofs.Usual.{eq-eqb, ne-eqb}
 use Rattle.kind.specs.Kinds.{familyOf}
 use Rattle.kind.proofs.kinds.family_of.Statement.{statement}
 use Rattle.kind.proofs.kinds.family_of.Tie as tie

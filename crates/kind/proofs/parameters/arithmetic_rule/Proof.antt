@@ -1,5 +1,5 @@
 -- `kind::arithmetic_rule` meets its contract: one test after the other, as the definition has them.
-use mathlib.Core.Path.{refl}
+use Rattle.wire.proofs.Usual.{refl}
 use Rattle.kind.specs.Parameters.{arithmeticRule}
 use Rattle.kind.proofs.parameters.arithmetic_rule.Statement.{statement}
 use Rattle.kind.proofs.parameters.arithmetic_rule.Tie as tie

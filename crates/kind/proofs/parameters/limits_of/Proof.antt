@@ -1,5 +1,5 @@
 -- `kind::limits_of` meets its contract: field by field.
-use borrow.Author.Needs.{needs}
+use Rattle.wire.proofs.Usual.{needs}
 use Rattle.kind.proofs.parameters.limits_of.Statement.{statement}
 use Rattle.kind.proofs.parameters.limits_of.Tie as tie
 

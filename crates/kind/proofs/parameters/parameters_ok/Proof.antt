@@ -1,6 +1,6 @@
 -- `kind::parameters_ok` meets its contract.
 use Rattle.kind.specs.Parameters.{parametersOk}
-use borrow.Author.Needs.{needs}
+use Rattle.wire.proofs.Usual.{needs}
 use Rattle.kind.proofs.parameters.parameters_ok.Statement.{statement}
 use Rattle.kind.proofs.parameters.parameters_ok.Tie as tie
 

@@ -1,6 +1,6 @@
 -- `kind::twohand_rule` meets its contract: one test after the other, as the definition has them.
 use Rattle.kind.specs.Parameters.{twohandRule}
-use borrow.Author.Needs.{needs}
+use Rattle.wire.proofs.Usual.{needs}
 use Rattle.kind.proofs.parameters.twohand_rule.Statement.{statement}
 use Rattle.kind.proofs.parameters.twohand_rule.Tie as tie
 

@@ -1,5 +1,5 @@
 -- `kind::zeros_at` meets its contract.
-use borrow.Author.Needs.{needs}
+use Rattle.wire.proofs.Usual.{needs}
 use Rattle.kind.proofs.parameters.zeros_at.Statement.{statement}
 use Rattle.kind.proofs.parameters.zeros_at.Tie as tie
 

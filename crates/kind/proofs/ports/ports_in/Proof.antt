@@ -1,5 +1,5 @@
 -- `kind::ports_in` meets its contract.
-use borrow.Author.Needs.{needs}
+use Rattle.wire.proofs.Usual.{needs}
 use Rattle.kind.proofs.ports.ports_in.Statement.{statement}
 use Rattle.kind.proofs.ports.ports_in.Tie as tie
 

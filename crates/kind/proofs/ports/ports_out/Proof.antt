@@ -1,5 +1,5 @@
 -- `kind::ports_out` meets its contract.
-use borrow.Author.Needs.{needs}
+use Rattle.wire.proofs.Usual.{needs}
 use Rattle.kind.proofs.ports.ports_out.Statement.{statement}
 use Rattle.kind.proofs.ports.ports_out.Tie as tie
 

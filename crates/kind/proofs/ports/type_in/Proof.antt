@@ -1,5 +1,5 @@
 -- `kind::type_in` meets its contract.
-use borrow.Author.Needs.{needs}
+use Rattle.wire.proofs.Usual.{needs}
 use Rattle.kind.proofs.ports.type_in.Statement.{statement}
 use Rattle.kind.proofs.ports.type_in.Tie as tie
 

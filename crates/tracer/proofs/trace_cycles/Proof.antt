@@ -1,11 +1,12 @@
--- `tracer::start` meets its contract: a fresh state that was written is that of an accepted file, and one that was not
+-- `tracer::trace_cycles` meets its contract: a fresh state that was written is that of an accepted file, and one that
+-- was not
 -- has the file's number.
 use Rattle.wire.proofs.Usual.{_≡_, sym, _∙_, needs, now}
 use Rattle.casefile.specs.Bodies.{projectOf}
 use Rattle.evaluator.specs.Fresh.{freshNumber}
 use Rattle.tracer.proofs.Starting.{is-accepted, is-fresh, is-refused, is-run, ordered-of}
-use Rattle.tracer.proofs.start.Statement.{statement}
-use Rattle.tracer.proofs.start.Tie as tie
+use Rattle.tracer.proofs.trace_cycles.Statement.{statement}
+use Rattle.tracer.proofs.trace_cycles.Tie as tie
 
 abbrev start-of : tie.Else1 → tie.Start
 start-of c = c .before .before .before .before .before .before .before .before
@@ -63,8 +64,13 @@ returns-2 c =
     let a = start-of e .args in
     r .run .ensures .0 ∙ is-run (now (a .file)) (now (a .state)) (zero-number e)
 
-pub start-spec : {M : Type 1} → statement M
-start-spec = tie.close (tie.spec
-    (λ c κs. search needs) (λ c. search needs) returns (λ c κs. search needs) (λ c κs. search needs)
-    (λ c κs. search needs) (λ c κs. search needs) order-requires (λ c. search needs) run-requires
-    (λ c. search needs) (λ c. search needs) returns-2)
+pub trace-cycles-spec : {M : Type 1} → statement M
+trace-cycles-spec = tie.close (tie.spec
+    (λ c κs. search needs) (λ c. search needs)
+    returns
+    (λ c κs. search needs) (λ c κs. search needs) (λ c κs. search needs) (λ c κs. search needs)
+    order-requires
+    (λ c. search needs)
+    run-requires
+    (λ c. search needs) (λ c. search needs)
+    returns-2)

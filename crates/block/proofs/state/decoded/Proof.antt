@@ -1,9 +1,9 @@
--- `block::load` meets its contract, field by field.
+-- `block::decoded` meets its contract, field by field.
 use Rattle.wire.proofs.Usual.{needs, now}
 use lib.ListN.{getD}
 use Rattle.block.specs.State.{decode}
-use Rattle.block.proofs.state.load.Statement.{statement}
-use Rattle.block.proofs.state.load.Tie as tie
+use Rattle.block.proofs.state.decoded.Statement.{statement}
+use Rattle.block.proofs.state.decoded.Tie as tie
 
 returns-2 : tie.Need-returns-2
 unfolding decode
@@ -22,8 +22,8 @@ returns-2 c =
       output = c .word32 .ensures i;
     }
 
-pub load-spec : {M : Type 1} → statement M
-load-spec = tie.close (tie.spec
+pub decoded-spec : {M : Type 1} → statement M
+decoded-spec = tie.close (tie.spec
     (λ c κs. search needs) (λ c. search needs) (λ c. search needs) (λ c. search needs) (λ c. search needs)
     (λ c κs. search needs) (λ c. search needs) (λ c. search needs) (λ c κs. search needs) (λ c. search needs)
     (λ c. search needs) (λ c κs. search needs) (λ c. search needs) (λ c. search needs) (λ c κs. search needs)

@@ -1,12 +1,12 @@
--- `block::pack` meets its contract: byte by byte.
+-- `block::encoded` meets its contract: byte by byte.
 use Rattle.wire.proofs.Usual.{refl, needs}
 use Rattle.block.specs.State.{encode}
-use Rattle.block.proofs.state.pack.Statement.{statement}
-use Rattle.block.proofs.state.pack.Tie as tie
+use Rattle.block.proofs.state.encoded.Statement.{statement}
+use Rattle.block.proofs.state.encoded.Tie as tie
 
-pub pack-spec : {M : Type 1} → statement M
+pub encoded-spec : {M : Type 1} → statement M
 unfolding encode
-pack-spec = tie.close (tie.spec
+encoded-spec = tie.close (tie.spec
     (λ c. search needs) (λ c. search needs) (λ c. search needs) (λ c. search needs) (λ c. search needs)
     (λ c. search needs) (λ c. search needs) (λ c. search needs) (λ c. search needs) (λ c. search needs)
     (λ c. search needs) (λ c. search needs)

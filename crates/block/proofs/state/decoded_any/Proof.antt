@@ -1,12 +1,12 @@
--- `block::load_any` meets its contract, field by field.
-use borrow.Author.Needs.{needs}
+-- `block::decoded_any` meets its contract, field by field.
+use Rattle.wire.proofs.Usual.{needs}
 use Rattle.block.specs.State.{decode}
-use Rattle.block.proofs.state.load_any.Statement.{statement}
-use Rattle.block.proofs.state.load_any.Tie as tie
+use Rattle.block.proofs.state.decoded_any.Statement.{statement}
+use Rattle.block.proofs.state.decoded_any.Tie as tie
 
-pub load-any-spec : {M : Type 1} → statement M
+pub decoded-any-spec : {M : Type 1} → statement M
 unfolding decode
-load-any-spec = tie.close (tie.spec
+decoded-any-spec = tie.close (tie.spec
     (λ c κs. search needs) (λ c κs. search needs) (λ c κs. search needs) (λ c κs. search needs)
     (λ c κs. search needs) (λ c κs. search needs)
     (λ c.

@@ -19,13 +19,13 @@ codes (String._∷_ c s) = code c ∷ codes s
 
 -- A row: the line that the definitions give, and the text that 01, "The trace program", asks for, without its line
 -- feed.
-pub record Row : Type 0 where
+pub record Sample : Type 0 where
   pub got : List ℕ
   pub want : String
 
 -- One row. General.
-abbrev pub is : List ℕ → String → Row
-is g w = record { got = g; want = w }
+abbrev pub prints : List ℕ → String → Sample
+prints g w = record { got = g; want = w }
 
 -- A finding whose inputs are the numbers a and b, as words of their types. 01, "The case file".
 unfoldable pub found : ℕ → ℕ → ℕ → ℕ → NumType → ℤ → NumType → ℤ → List ℕ
@@ -33,17 +33,17 @@ found cycle block text diagnosis ta a tb b = findingLine cycle block text diagno
 
 -- All rows. The first two are the listing of 01, "The trace program"; the others stand at the limits of the types and
 -- at 0.
-abbrev pub marked : List Row
-marked =
-    is (found 2 0 16513 2 Int16 (pos 30000) Int16 (pos 2768)) "finding 2 0 16513 2 30000 2768"
-    ∷ is (endLine 2 1) "end 2 1"
-    ∷ is (found 1 63 16512 1 Int16 (negsuc 32767) Int16 (pos 1)) "finding 1 63 16512 1 -32768 1"
-    ∷ is (found 10 9 16512 1 Int32 (negsuc 2147483647) Uint32 (pos 4294967295))
+abbrev pub samples : List Sample
+samples =
+    prints (found 2 0 16513 2 Int16 (pos 30000) Int16 (pos 2768)) "finding 2 0 16513 2 30000 2768"
+    ∷ prints (endLine 2 1) "end 2 1"
+    ∷ prints (found 1 63 16512 1 Int16 (negsuc 32767) Int16 (pos 1)) "finding 1 63 16512 1 -32768 1"
+    ∷ prints (found 10 9 16512 1 Int32 (negsuc 2147483647) Uint32 (pos 4294967295))
     "finding 10 9 16512 1 -2147483648 4294967295"
-    ∷ is (found 100 10 16513 2 Uint16 (pos 65535) Int16 (negsuc 0)) "finding 100 10 16513 2 65535 -1"
-    ∷ is (found 99 1 0 71 Uint32 (pos 15) Uint32 (pos 0)) "finding 99 1 0 71 15 0"
-    ∷ is (endLine 0 0) "end 0 0"
-    ∷ is (endLine 4294967295 1000000000) "end 4294967295 1000000000"
-    ∷ is (refusedLine 1) "refused 1"
-    ∷ is (refusedLine 12) "refused 12"
+    ∷ prints (found 100 10 16513 2 Uint16 (pos 65535) Int16 (negsuc 0)) "finding 100 10 16513 2 65535 -1"
+    ∷ prints (found 99 1 0 71 Uint32 (pos 15) Uint32 (pos 0)) "finding 99 1 0 71 15 0"
+    ∷ prints (endLine 0 0) "end 0 0"
+    ∷ prints (endLine 4294967295 1000000000) "end 4294967295 1000000000"
+    ∷ prints (refusedLine 1) "refused 1"
+    ∷ prints (refusedLine 12) "refused 12"
     ∷ []

@@ -1,4 +1,5 @@
--- `evaluator::turns::run` meets its contract: each turn of the loop takes the state and the findings from one stage to
+-- `evaluator::turns::take_turns` meets its contract: each turn of the loop takes the state and the findings from one
+-- stage to
 -- the next (`Running`).
 use Rattle.wire.proofs.Usual.{_≡_, refl, sym, ap, _∙_, subst, Bool, true, false, _||_, true≢false, ℕ, _+_, _-_}
 use Rattle.wire.proofs.Usual.{_*_, _<_, zero-add, arith, needs, length, length-replicate, now}
@@ -8,8 +9,8 @@ use Rattle.block.specs.Finding.{findingSize}
 use Rattle.evaluator.specs.State.{stateHead}
 use Rattle.evaluator.proofs.Reading.{standing-on}
 use Rattle.evaluator.proofs.Running.{Held, held-start, held-turn, held-state, held-findings, held-none}
-use Rattle.evaluator.proofs.turns.run.Statement.{statement}
-use Rattle.evaluator.proofs.turns.run.Tie as tie
+use Rattle.evaluator.proofs.turns.take_turns.Statement.{statement}
+use Rattle.evaluator.proofs.turns.take_turns.Tie as tie
 
 abbrev Inv-loop : tie.InvT-loop
 Inv-loop blocks h n ranks rec phases state₀ findings₀ some₀ e₀ state findings some e =
@@ -79,8 +80,8 @@ returns c =
       ),
     )
 
-pub run-spec : {M : Type 1} → statement M
-run-spec = tie.close (tie.spec
+pub take-turns-spec : {M : Type 1} → statement M
+take-turns-spec = tie.close (tie.spec
     Inv-loop μ-loop
     (λ c.
     let s = c .before .before .before .before .before .before in
@@ -93,7 +94,8 @@ run-spec = tie.close (tie.spec
     let s = start-of (y .before .before) in
     let l = y .before .before in
     (standing-on (s .pre .standing) (l .loop .inv .cells .long) (s .pre .count), s .pre .due _ (block y .0)))
-    (λ c. search needs) (λ c. search needs) loop-again
+    (λ c. search needs) (λ c. search needs)
+    loop-again
     (λ c. let l = c .before in l .loop .inv .cells .long
     ∙ sym (start-of l .pre .standing .state
     ∙ ap (λ (k : ℕ). stateHead (start-of l .args .h) + stateSize * k) (sym (start-of l .pre .count))))
