@@ -4,7 +4,8 @@
 
 #include "hagglethwait.h"
 
-/* What the largest accepted file needs: 8 groups, 64 blocks, 64 outputs. One byte more than a file may have shows that it is too long. */
+/* What the largest accepted file needs: 8 groups, 64 blocks, 64 outputs. One byte more than a file may have shows that
+ * it is too long. */
 enum { FILE_ROOM = 65537, STATE_ROOM = 8 + 16 * 64, OUTPUTS_ROOM = 4 * 64, FINDINGS_ROOM = 16 * 64 };
 
 static uint8_t file[FILE_ROOM];
@@ -31,8 +32,8 @@ static uint32_t body_size(int e)
     return word32(file + 8 * e + 4);
 }
 
-/* Whether input `port` of a block is shown with its sign: arithmetic blocks (kinds 3 to 6) have their inputs' types at the front of their parameters, 0 INT16 and
- * 2 INT32 the signed ones. */
+/* Whether input `port` of a block is shown with its sign: arithmetic blocks (kinds 3 to 6) have their inputs' types at
+ * the front of their parameters, 0 INT16 and 2 INT32 the signed ones. */
 static int is_signed(uint8_t block, int port)
 {
     const uint8_t *record = file + body_start(2) + 40 * block;

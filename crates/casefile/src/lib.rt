@@ -40,7 +40,7 @@ pub fn body(file: &[u8], e: u8) -> &[u8]
     reader::body(file, e)
 }
 
-// How many of each the file's project has.
+// The device of the file's project, how many records each body has, and the size of a cycle record.
 pub fn counts_in(file: &[u8]) -> Counts
     ensures { λ r. ⌜ r ≡ countsIn (projectOf (now (file .entry))) ⌝ }
 {

@@ -1,5 +1,5 @@
--- A project is its four bodies (01, "The case file"): G, I, B and O, each a list of bytes. Every definition here reads
--- the one body that it names, and is total, since a byte past the end reads as 0.
+-- A project is its four bodies (01, "The case file"): G, I, B and O, each a list of bytes. A definition reads the
+-- bodies that it names and no others, and is total, since a byte past the end reads as 0.
 use Prim.Native.Nat.{ℕ, _+_, _-_, _*_, _/_}
 use mathlib.Core.Bool.{Bool, true, false, cond, not, _&&_}
 use mathlib.Core.List.{List}
@@ -198,6 +198,6 @@ countsOf G I B O = record {
   size = sizeCounted G I;
 }
 
--- the counts of a project
+-- 01, "The case file": those of a project
 abbrev pub countsIn : Project → Counts
 countsIn P = countsOf (P .groups) (P .inputs) (P .blocks) (P .outputs)

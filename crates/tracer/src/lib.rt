@@ -196,7 +196,8 @@ fn trace_cycles(file: &[u8], c: Counts, state: &mut [u8], findings: &mut [u8]) -
     )
 }
 
-// The trace of a file.
+// The trace of a file. (Its counts are taken here as `casefile::counts_in` takes them: that function, with one caller
+// more, is no longer built into its callers, and a trace then costs up to 5 instructions in 100 more.)
 pub fn trace(file: &[u8]) -> End
     ensures { λ r. ⌜ r ≡ endOf (now (file .entry)) ⌝ }
 {

@@ -1,4 +1,4 @@
--- The names of the library that most proofs use, each with the module that it comes from.
+-- Names of the library that many proofs use, each with the module that it comes from.
 pub use Prim.Native.Nat.{_%_, _*_, _+_, _-_, _/_, _<_, _≤_, suc, zero, ℕ}
 pub use borrow.Author.Needs.{needs}
 pub use borrow.Author.Tests.{eq-eqb, eqb-true, lt-ltb, ltb-true, ne-eqb, not-true}
