@@ -7,3 +7,4 @@ pub mod Refusals
 pub mod Accepted
 pub mod Listing
 pub mod Handed
+pub mod Execution

@@ -13,7 +13,7 @@ use Rattle.wire.specs.Words.{byteAt}
 use Rattle.wire.specs.Records.{slot}
 use Rattle.wire.proofs.Records.{slot-past}
 use Rattle.project.specs.Project.{inputCount, groupCount, blockCount, groupOf, orderOf}
-use Rattle.project.specs.Asks.{Sound}
+use Rattle.casefile.specs.Sound.{Sound}
 use Rattle.casefile.specs.Bodies.{projectOf}
 use Rattle.casefile.proofs.Accepted.{accepted}
 use Rattle.block.specs.Finding.{findingSize}

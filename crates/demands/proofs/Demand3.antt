@@ -11,7 +11,7 @@ use Rattle.wire.proofs.Places.{all-same}
 use Rattle.wire.proofs.Records.{gather-same}
 use Rattle.project.specs.Project.{Project, groupCount, blockCount, groupOf, orderOf, linkOf, outputCount, outputBlock}
 use Rattle.project.specs.Project.{outputPort, device}
-use Rattle.project.specs.Asks.{Sound, Shown}
+use Rattle.casefile.specs.Sound.{Sound, Shown}
 use Rattle.project.specs.Alike.{Alike}
 use Rattle.project.proofs.Alike.{blocks-same, kind-same, group-same, parameters-same, link-same}
 use Rattle.casefile.specs.declared.Verdict.the-variants.{Accepted}

@@ -12,10 +12,10 @@ use Rattle.wire.proofs.Places.{all-each, all-true, both-left}
 use Rattle.wire.proofs.Records.{lt-or-gt, slot-gather, gather-same, length-gather}
 use Rattle.kind.specs.Devices.{isErrAck}
 use Rattle.project.specs.declared.Counts.{Counts}
-use Rattle.project.specs.Asks.{Sound}
+use Rattle.casefile.specs.Sound.{Sound}
 use Rattle.project.specs.Project.{blockCount, blockSize, device, groupCount, headSize, kindOf, orderOf, outputBlock}
 use Rattle.project.specs.Project.{outputCount, outputPort, parametersOf, wordSize}
-use Rattle.project.proofs.Orders.{block-at-is, block-at-lt}
+use Rattle.casefile.proofs.Execution.{block-at-is, block-at-lt}
 use Rattle.block.specs.Finding.{findingSize}
 use Rattle.block.specs.State.{stateSize}
 use Rattle.block.specs.Formed.{wellFormed}

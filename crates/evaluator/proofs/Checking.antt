@@ -8,7 +8,7 @@ use Rattle.project.specs.declared.Counts.{Counts}
 use Rattle.project.specs.Project.{Project, rowOf, device, groupCount, inputSize, inputCount, inputTypeIn, blockSize}
 use Rattle.project.specs.Project.{blockCount, kindIn, parametersIn, headSize, wordSize, recordSize, sizeCounted}
 use Rattle.project.specs.Project.{outputCount, countsIn}
-use Rattle.project.specs.Asks.{Sound, Shown}
+use Rattle.casefile.specs.Sound.{Sound, Shown}
 use Rattle.project.proofs.Counted.{is-device, is-groups, is-inputs, is-blocks, is-outputs, is-size}
 use Rattle.casefile.specs.Bodies.{projectOf}
 use Rattle.casefile.proofs.Accepted.{Good, size-is}

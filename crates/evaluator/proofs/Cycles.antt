@@ -11,7 +11,7 @@ use Rattle.wire.specs.Places.{all}
 use Rattle.wire.proofs.Places.{all-each, both-right}
 use Rattle.wire.proofs.Records.{slot-past, gather-at, gather-same, length-gather}
 use Rattle.project.specs.Project.{device, groupCount, blockCount, kindOf, groupOf, orderOf, parametersOf, rowOf}
-use Rattle.project.specs.Asks.{Sound}
+use Rattle.casefile.specs.Sound.{Sound}
 use Rattle.block.specs.State.{stateSize, entersFrom, isError}
 use Rattle.block.specs.Formed.{wellFormed}
 use Rattle.block.specs.Finding.{findingSize, isFinding}

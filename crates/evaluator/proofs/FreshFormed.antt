@@ -9,7 +9,7 @@ use Rattle.wire.proofs.Places.{all-true}
 use Rattle.wire.proofs.Records.{length-gather, slot-gather}
 use Rattle.wire.proofs.Tables.{first-zero, first-kept, first-broken}
 use Rattle.project.specs.Project.{Project, groupCount, blockCount, kindOf, parametersOf}
-use Rattle.project.specs.Asks.{Sound}
+use Rattle.casefile.specs.Sound.{Sound}
 use Rattle.casefile.specs.Bodies.{projectOf}
 use Rattle.casefile.specs.Refusal.{fileTable}
 use Rattle.casefile.proofs.Refusals.{file-numbered}

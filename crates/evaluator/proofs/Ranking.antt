@@ -5,9 +5,9 @@ use native.Mathlib.Nat.{not-suc-le-zero, mod-eq-of-lt}
 use lib.ListN.{length-set, getD-replicate}
 use lib.Seq.{getD-set-same, getD-set-other}
 use Rattle.wire.specs.Words.{byteAt}
-use Rattle.project.specs.Asks.{Sound}
+use Rattle.casefile.specs.Sound.{Sound}
 use Rattle.project.specs.Project.{blockCount, orderOf, blockAt}
-use Rattle.project.proofs.Orders.{block-at-lt, block-at-is}
+use Rattle.casefile.proofs.Execution.{block-at-lt, block-at-is}
 use Rattle.block.specs.State.{onlyIf}
 use Rattle.evaluator.specs.Asks.{Ordered, Ranked, orderList}
 use Rattle.evaluator.proofs.Deciding.{row-length, row-at, row-is}

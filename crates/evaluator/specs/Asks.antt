@@ -18,7 +18,7 @@ use Rattle.project.specs.declared.Counts.{Counts}
 use Rattle.project.specs.Project.{rowOf, device, groupCount, inputSize, inputCount, blockSize, blockCount, blockRecord}
 use Rattle.project.specs.Project.{groupOf, orderOf, linkIn, blockAt, outputCount, outputBlock, outputPort, headSize}
 use Rattle.project.specs.Project.{wordSize, recordSize}
-use Rattle.project.specs.Asks.{Sound, Shown}
+use Rattle.casefile.specs.Sound.{Sound, Shown}
 use Rattle.block.specs.State.{onlyIf, stateSize, entersFrom}
 use Rattle.block.specs.Step.{asksInputs}
 use Rattle.block.specs.Finding.{findingSize, isFinding}

@@ -6,10 +6,10 @@ use Prim.Native.Nat.{min}
 use lib.ListN.{length-take, List·getD-eq-default}
 use lib.Seq.{ext-getD, getD-take, getD-drop}
 use Rattle.wire.specs.Words.{byteAt}
-use Rattle.kind.specs.Parameters.{parameterCount}
 use Rattle.project.specs.declared.Source.the-variants.{Nothing}
 use Rattle.project.specs.Project.{Project, rowOf, blockSize, blockCount, blockRecord, orderPlace}
-use Rattle.project.specs.Project.{parameterStart, linkStart, linkSize, linkCount, parametersIn, sourceFrom}
+use Rattle.project.specs.Project.{parameterStart, parameterCount, linkStart, linkSize, linkCount, parametersIn}
+use Rattle.project.specs.Project.{sourceFrom}
 use Rattle.project.specs.Project.{linkIn, kindOf, groupOf, parametersOf, linkOf}
 use Rattle.project.specs.Alike.{Alike}
 use Rattle.project.proofs.Records.{row-byte}

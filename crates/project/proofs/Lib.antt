@@ -1,5 +1,4 @@
 pub mod Records
 pub mod Counted
 pub mod Onto
-pub mod Orders
 pub mod Alike

@@ -1,3 +1,2 @@
 pub mod Project
 pub mod Alike
-pub mod Asks

@@ -7,7 +7,6 @@ use lib.Dec.{eqb, leb}
 use lib.ListN.{length, take, drop}
 use Rattle.wire.specs.Words.{byteAt}
 use Rattle.wire.specs.Places.{firstBad}
-use Rattle.kind.specs.Parameters.{parameterCount}
 use Rattle.project.specs.declared.Source.{Source}
 use Rattle.project.specs.declared.Source.the-variants.{Nothing, External, Output}
 use Rattle.project.specs.declared.Counts.{Counts}
@@ -71,6 +70,9 @@ orderPlace = 2
 
 abbrev pub parameterStart : ℕ
 parameterStart = 4
+
+abbrev pub parameterCount : ℕ
+parameterCount = 12
 
 abbrev pub linkStart : ℕ
 linkStart = 16

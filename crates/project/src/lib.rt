@@ -20,8 +20,10 @@ pub const HEAD_SIZE: usize = 2;
 
 pub const WORD_SIZE: usize = 4;
 
-// How many links a block's record has, where the parameters and the links start in it, and a link's size.
+// How many links and how many parameter bytes a block's record has, where they start in it, and a link's size.
 pub const LINKS: u8 = 8;
+
+const PARAMETERS: usize = 12;
 
 const PARAMETER_START: usize = 4;
 
@@ -186,7 +188,7 @@ pub fn zero_of(r: &[u8]) -> u8
 pub fn parameters_of(r: &[u8]) -> &[u8]
     ensures { λ x. ⌜ now x ≡ parametersIn (now (r .entry)) ⌝ }
 {
-    wire::part(r, PARAMETER_START, kind::PARAMETERS)
+    wire::part(r, PARAMETER_START, PARAMETERS)
 }
 
 // The three bytes of the link of an input port, and what they name.

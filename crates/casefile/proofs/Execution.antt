@@ -1,9 +1,9 @@
 -- The execution numbers of a sound project are 0 to n - 1, each once: the block at a number has it.
 -- Assumes nothing.
 use Rattle.wire.proofs.Usual.{_≡_, List, ℕ, _<_}
 use Rattle.project.specs.Project.{blockCount, orderOf, otherOrder, blockAt}
-use Rattle.project.specs.Asks.{Sound}
+use Rattle.casefile.specs.Sound.{Sound}
 use Rattle.project.proofs.Onto.{Apart, placeOf, place-lt, place-is}
 
 module _ {G B : List ℕ} {n : ℕ} (s : Sound G B n) where
   orders : Apart (orderOf B) (blockCount B) (blockCount B)
