@@ -113,7 +113,7 @@ pub fn load(t: NumType, w: u32) -> Signed
 }
 
 // a - b, of two magnitudes.
-fn distance(a: u64, b: u64) -> Signed
+fn signed_difference(a: u64, b: u64) -> Signed
     ensures { λ r. ⌜ zOf r ≡ subℕ a b ⌝ }
 {
     if a < b {
@@ -141,11 +141,11 @@ fn plus(a: Signed, b: Signed) -> Signed
                 mag: a.mag + b.mag,
             }
         } else {
-            distance(b.mag, a.mag)
+            signed_difference(b.mag, a.mag)
         }
     } else {
         if b.neg {
-            distance(a.mag, b.mag)
+            signed_difference(a.mag, b.mag)
         } else {
             Signed {
                 neg: false,

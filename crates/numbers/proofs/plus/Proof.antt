@@ -15,13 +15,13 @@ returns-2 : tie.Need-returns-2
 returns-2 c =
     let x = c .before .before .before .args in
     rw (c .before .before .if1 .taken, c .before .if2 .left)
-    (c .distance .ensures ∙ sym (neg-pos (x .a .mag) (x .b .mag)))
+    (c .signed-difference .ensures ∙ sym (neg-pos (x .a .mag) (x .b .mag)))
 
 returns-3 : tie.Need-returns-3
 returns-3 c =
     let x = c .before .before .before .args in
     rw (c .before .before .if1 .left, c .before .if3 .taken)
-    (c .distance2 .ensures ∙ sym (pos-neg (x .a .mag) (x .b .mag)))
+    (c .signed-difference2 .ensures ∙ sym (pos-neg (x .a .mag) (x .b .mag)))
 
 returns-4 : tie.Need-returns-4
 returns-4 c = rw (c .before .before .before .if1 .left, c .before .before .if3 .left)
