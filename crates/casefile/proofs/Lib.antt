@@ -5,6 +5,5 @@ pub mod Numbers
 pub mod Facts
 pub mod Refusals
 pub mod Accepted
-pub mod Listing
 pub mod Handed
 pub mod Execution

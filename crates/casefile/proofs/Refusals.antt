@@ -13,8 +13,7 @@ use Rattle.wire.proofs.Tables.{numbered, keptAt, number-some, first-zero, first
 use Rattle.casefile.specs.declared.Verdict.the-variants.{Accepted, Refused}
 use Rattle.casefile.specs.declared.table.Rule.{Rule}
 use Rattle.casefile.specs.declared.table.Rule.the-variants.{Size}
-use Rattle.contents.specs.Contents.{bodyOf}
-use Rattle.casefile.specs.Bodies.{bodyG, bodyI, bodyB}
+use Rattle.casefile.specs.Bodies.{bodyG, bodyI, bodyB, bodyIn}
 use Rattle.casefile.specs.Refusal.{rules, ruleCount, ruleAt, refusalOf, holds, fileRow, fileTable, told}
 use Rattle.casefile.specs.Refusal.{verdict, numberOf}
 use Rattle.casefile.specs.Asks.{Reached}
@@ -59,7 +58,7 @@ module _ (F : List ℕ) (k : ℕ) (l : k < ruleCount) (i : Passed (keptAt (fileT
       subst (λ (s : Rule). holds F s ≡ true) is
       (sym (ap (λ (x : Row). x .kept) (table-at F (firstOf m) (omega arith))) ∙ i .each (firstOf m) before)
 
-  pub reached : Reached (bodyOf F bodyG) (bodyOf F bodyI) (bodyOf F bodyB) (ruleAt k)
+  pub reached : Reached (bodyIn F bodyG) (bodyIn F bodyI) (bodyIn F bodyB) (ruleAt k)
   unfolding firstOf firstBad all ruleAt
   reached = record {
     groups = earlier 3 refl refl;

@@ -3,41 +3,13 @@ use Prim.Native.Nat.{ℕ, _+_, _*_, _<_}
 use mathlib.Core.Path.{_≡_}
 use mathlib.Core.Bool.{Bool, true, cond}
 use mathlib.Core.List.{List}
-use lib.Dec.{eqb}
-use lib.ListN.{length, take, drop}
+use lib.ListN.{length}
 use Rattle.wire.specs.Words.{byteAt}
 use Rattle.wire.specs.Places.{all}
-use Rattle.contents.specs.Contents.{bodyStart, bodySize}
 use Rattle.project.specs.Project.{blockRecord, linkCount}
-use Rattle.casefile.specs.declared.reader.Starts.{Starts}
 use Rattle.casefile.specs.declared.table.Rule.{Rule}
-use Rattle.casefile.specs.Bodies.{bodyG, bodyI, bodyB, bodyO, bodyT}
 use Rattle.casefile.specs.Rules.{nothingReads, channelRule, groupsSizeOk, inputsSizeOk, blocksSizeOk}
 use Rattle.casefile.specs.Refusal.{refusalOf}
-
--- ---- the reader: the starts of the five bodies (01, "The case file": every body is found through the table)
-
-unfoldable pub startsOf : List ℕ → Starts
-startsOf F = record {
-  group = bodyStart F bodyG;
-  input = bodyStart F bodyI;
-  block = bodyStart F bodyB;
-  output = bodyStart F bodyO;
-  «record» = bodyStart F bodyT;
-}
-
--- the start of body e, of those that S has; an entry past the five is read from the file
-unfoldable pub startIn : List ℕ → Starts → ℕ → ℕ
-startIn F S e =
-    cond (eqb e bodyG) (S .group)
-    (cond (eqb e bodyI) (S .input)
-    (cond (eqb e bodyB) (S .block)
-    (cond (eqb e bodyO) (S .output)
-    (cond (eqb e bodyT) (S .«record») (bodyStart F e)))))
-
--- the stretch of the file from there on
-unfoldable pub stretchOf : List ℕ → Starts → ℕ → List ℕ
-stretchOf F S e = take (bodySize F e) (drop (startIn F S e) F)
 
 -- ---- the table: what a rule counts on of those with lower numbers
 

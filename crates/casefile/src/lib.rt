@@ -2,7 +2,6 @@
 // is read through its table of contents, by the reader alone; everything else is over its bodies. Every public function
 // is total: a byte past the end reads as 0.
 ghost use mathlib.Core.Path.{_≡_};
-ghost use Rattle.contents.specs.Contents.{bodyOf};
 ghost use Rattle.project.specs.Project.{countsIn};
 ghost use Rattle.casefile.specs.Bodies.{projectOf};
 ghost use Rattle.casefile.specs.Refusal.{verdict, numberOf};
@@ -15,6 +14,9 @@ mod records;
 mod table;
 
 use project::Counts;
+pub use reader::Starts;
+pub use reader::body;
+pub use reader::starts_of;
 
 // The bodies, by their places in the table of contents.
 pub const BODY_G: u8 = 0;
@@ -27,28 +29,25 @@ pub const BODY_O: u8 = 3;
 
 pub const BODY_T: u8 = 4;
 
+// How many there are.
+const BODIES: u8 = 5;
+
 // What a check answers: accepted, or turned down with a number.
 pub enum Verdict {
     Accepted,
     Refused(u8),
 }
 
-// Body e of the file, as a part of it.
-pub fn body(file: &[u8], e: u8) -> &[u8]
-    ensures { λ r. ⌜ now r ≡ bodyOf (now (file .entry)) e ⌝ }
-{
-    reader::body(file, e)
-}
-
 // The device of the file's project, how many records each body has, and the size of a cycle record.
 pub fn counts_in(file: &[u8]) -> Counts
     ensures { λ r. ⌜ r ≡ countsIn (projectOf (now (file .entry))) ⌝ }
 {
+    let starts = starts_of(file);
     project::counts_of(
-        body(file, BODY_G),
-        body(file, BODY_I),
-        body(file, BODY_B),
-        body(file, BODY_O),
+        body(file, starts, BODY_G),
+        body(file, starts, BODY_I),
+        body(file, starts, BODY_B),
+        body(file, starts, BODY_O),
     )
 }
 
@@ -56,11 +55,12 @@ pub fn counts_in(file: &[u8]) -> Counts
 pub fn check(file: &[u8]) -> Verdict
     ensures { λ r. ⌜ r ≡ verdict (now (file .entry)) ⌝ }
 {
-    let groups = body(file, BODY_G);
-    let inputs = body(file, BODY_I);
-    let blocks = body(file, BODY_B);
-    let outputs = body(file, BODY_O);
-    let records = body(file, BODY_T);
+    let starts = starts_of(file);
+    let groups = body(file, starts, BODY_G);
+    let inputs = body(file, starts, BODY_I);
+    let blocks = body(file, starts, BODY_B);
+    let outputs = body(file, starts, BODY_O);
+    let records = body(file, starts, BODY_T);
     let mut k = 0;
     while k < table::RULES {
         let r = table::rule_at(k);

@@ -10,9 +10,7 @@ use crate::links;
 use crate::orders;
 use crate::records;
 
-// How many bodies there are, and the size of the table of contents.
-const BODIES: u8 = 5;
-
+// The size of the table of contents.
 const CONTENTS_SIZE: usize = 40;
 
 // The rules that a file must keep, in any order: `TABLE` has theirs.
@@ -95,7 +93,7 @@ pub fn keeps(file: &[u8], g: &[u8], i: &[u8], b: &[u8], o: &[u8], t: &[u8], r: R
 {
     match r {
         Rule::Size => size_ok(file),
-        Rule::Contents => contents::ok(file, BODIES),
+        Rule::Contents => contents::ok(file, super::BODIES),
         Rule::GroupsSize => records::groups_size_ok(g),
         Rule::Groups => records::first_bad_group(g) == project::group_count(g),
         Rule::InputsSize => records::inputs_size_ok(i),

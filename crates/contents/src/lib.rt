@@ -1,5 +1,5 @@
 // A table of contents at the front of a file: for each of n bodies its start and its length (01, "The case file", where
-// n is 5). Every function is total: a byte past the end reads as 0.
+// n is 5). Every public function is total: a byte past the end reads as 0.
 ghost use mathlib.Core.Path.{_≡_};
 ghost use Prim.Native.Nat.{_-_, _<_};
 ghost use Rattle.wire.specs.Places.{firstBad};

@@ -1,69 +1,101 @@
--- Demand 1: a call is turned down with the number of the first rule of its table that is not kept, exactly then, and
--- leaves what it was lent as it was; the table's numbers rise. The call's number is the table's by definition. Assumes
--- nothing.
-use Rattle.wire.proofs.Usual.{_≡_, refl, sym, ap, _∙_, subst, true, _≢_, List, ℕ, ℕ-discrete, arith}
-use Rattle.wire.specs.Tables.{FirstIn, AllKept}
-use Rattle.wire.proofs.Tables.{first-zero, first-some, first-in, kept-not}
+-- Demand 1: what a call, a check, the sizes and the fresh state answer is the number of the first rule of their table
+-- that is not kept, exactly then; a call that is turned down leaves what it was lent as it was; one that is not answers
+-- its count, the sizes or the fresh state; the tables' numbers rise. Assumes nothing.
+use Rattle.wire.proofs.Usual.{_≡_, refl, sym, ap, _∙_, true, _≢_, List, [], _∷_, ℕ, zero, suc, _≤_, arith}
+use Rattle.wire.proofs.Usual.{lt-ltb, ne-eqb}
+use borrow.Author.Tests.{leb-true}
+use lib.Dec.{leb}
+use Rattle.wire.specs.Tables.{Row, first}
+use Rattle.wire.proofs.Places.{both-left, both-right}
+use Rattle.wire.proofs.Tables.{numbered, first-zero, first-some}
+use Rattle.project.specs.Project.{Project}
 use Rattle.casefile.specs.Bodies.{projectOf}
-use Rattle.casefile.specs.Refusal.{fileTable}
-use Rattle.evaluator.specs.declared.Answer.the-variants.{Findings, Refused}
+use Rattle.casefile.specs.Refusal.{fileTable, told, verdict, numberOf}
+use Rattle.evaluator.specs.declared.Answer.the-variants.{Findings}
 use Rattle.evaluator.specs.Cycle.{findingCount}
-use Rattle.evaluator.specs.Answer.{Lent, Left, callTable, refusal, cycleOf, numberIn}
-use Rattle.evaluator.proofs.Calls.{table-numbered, call-refused, call-done}
-use Rattle.demands.specs.Demands.{rising, Answered, Demand1}
+use Rattle.evaluator.specs.Answer.{Lent, callTable, refusal, leaves, cycleOf, numberIn}
+use Rattle.evaluator.specs.Fresh.{sizesAt, sizesOf, sizesNumber, freshTable, freshNumber, freshLeft}
+use Rattle.demands.specs.Demands.{rising, Numbered, Answered, SizesAnswered, FreshAnswered, Demand1}
 
--- an answer that is the count of findings is no refusal
-apart : {A : Type 0} (k n : ℕ) → Findings k ≡ Refused n → A
-apart k n e = let never : _≡_ {A = ℕ} 0 1 = cc in absurd (omega arith)
+-- ---- a number that is the first of a table whose numbers rise
 
-module _ (F R : List ℕ) (L : Lent) where
-  in-order : rising 1 (callTable F R L) ≡ true
-  unfolding rising callTable fileTable
-  in-order = refl
+rising-numbered : (m : ℕ) (t : List Row) → 1 ≤ m → rising m t ≡ true → numbered t ≡ true
+unfolding rising numbered
+rising-numbered m [] l e = refl
+rising-numbered m (r ∷ rs) l e =
+    let some : 1 ≤ r .number =
+    omega (arith, leb-true m (r .number) (both-left (leb m (r .number)) (rising (r .number) rs) e)) in
+    rw (lt-ltb 0 (r .number) (omega arith))
+    (rising-numbered (r .number) rs some (both-right (leb m (r .number)) (rising (r .number) rs) e))
 
-  -- a call whose every rule is kept
-  when-kept : refusal F R L ≡ 0 → Answered F R L
-  unfolding refusal
-  when-kept z = record {
-    refused = λ n. (λ e. apart _ n (sym done ∙ e), λ f. absurd (kept-not kept f));
-    untouched = λ n e. apart _ n (sym done ∙ e);
-    accepted = (λ _. kept, λ _. done);
-    lowest = in-order;
-  }
-    where
-      kept : AllKept (callTable F R L)
-      kept = first-zero (callTable F R L) (table-numbered F R L) .0 z
+by-table : (t : List Row) {n : ℕ} → rising 1 t ≡ true → n ≡ first t → Numbered t n
+by-table t {n} up e = record {
+  refused = λ k.
+      let some = first-some t each (suc k) (λ z. omega (arith, z)) in
+      (λ m. some .0 (sym e ∙ m), λ f. e ∙ some .1 f);
+  accepted = (λ z. first-zero t each .0 (sym e ∙ z), λ a. e ∙ first-zero t each .1 a);
+  lowest = up;
+}
+  where
+    each : numbered t ≡ true
+    each = rising-numbered 1 t (omega arith) up
 
-      done : cycleOf F R L .answer
-          ≡ Findings (findingCount (projectOf F .groups) (projectOf F .blocks) R (L .state))
-      done = ap (λ (l : Left). l .answer) (call-done F R L z)
+-- ---- a cycle call
 
-  -- a call with a rule that is not
-  when-broken : refusal F R L ≢ 0 → Answered F R L
-  unfolding refusal
-  when-broken some = record {
-    refused = λ m. (
-      λ e. subst (FirstIn (callTable F R L)) (ap numberIn (sym turned ∙ e)) broken,
-      λ g. turned ∙ ap Refused (first-in (callTable F R L) g),
-    );
-    untouched = λ m e. ap (λ (l : Left). l .lent) whole;
-    accepted = (λ e. apart _ _ (sym e ∙ turned), λ h. absurd (kept-not h broken));
-    lowest = in-order;
-  }
-    where
-      broken : FirstIn (callTable F R L) (refusal F R L)
-      broken = first-some (callTable F R L) (table-numbered F R L) (refusal F R L) some .0 refl
+module _ (P : Project) (R : List ℕ) (L : Lent) where
+  left-number : (n : ℕ) → numberIn (leaves n P R L .answer) ≡ n
+  left-number zero = refl
+  left-number (suc n) = refl
 
-      whole : cycleOf F R L ≡ record { answer = Refused (refusal F R L); lent = L }
-      whole = call-refused F R L (refusal F R L) refl some
+  left-untouched : (n : ℕ) → n ≢ 0 → leaves n P R L .lent ≡ L
+  left-untouched zero h = absurd (h refl)
+  left-untouched (suc n) h = refl
 
-      turned : cycleOf F R L .answer ≡ Refused (refusal F R L)
-      turned = ap (λ (l : Left). l .answer) whole
+  left-count : (n : ℕ) → n ≡ 0 →
+      leaves n P R L .answer ≡ Findings (findingCount (P .groups) (P .blocks) R (L .state))
+  left-count zero e = refl
+  left-count (suc n) e = absurd (omega (arith, e))
+
+answered : (F R : List ℕ) (L : Lent) → Answered F R L
+unfolding cycleOf refusal callTable fileTable rising
+answered F R L =
+    let n = left-number (projectOf F) R L (refusal F R L) in
+    record {
+      number = by-table (callTable F R L) refl n;
+      untouched = λ h. left-untouched (projectOf F) R L (refusal F R L) (λ z. h (n ∙ z));
+      count = λ z. left-count (projectOf F) R L (refusal F R L) (sym n ∙ z);
+    }
+
+-- ---- a check, the sizes, the fresh state
+
+pub told-number : (n : ℕ) → numberOf (told n) ≡ n
+told-number zero = refl
+told-number (suc n) = rw (ne-eqb (suc n) 0 (λ z. omega (arith, z)))
+
+checked : (F : List ℕ) → Numbered (fileTable F) (numberOf (verdict F))
+unfolding verdict fileTable rising
+checked F = by-table (fileTable F) refl (told-number (first (fileTable F)))
+
+sized-number : (n : ℕ) (P : Project) → sizesNumber (sizesAt n P) ≡ n
+sized-number zero P = refl
+sized-number (suc n) P = rw (ne-eqb (suc n) 0 (λ z. omega (arith, z)))
+
+sized : (F : List ℕ) → SizesAnswered F
+unfolding sizesOf fileTable rising
+sized F =
+    let n = sized-number (first (fileTable F)) (projectOf F) in
+    record {
+      number = by-table (fileTable F) refl n;
+      told = λ z. ap (λ (m : ℕ). sizesAt m (projectOf F)) (sym n ∙ z);
+    }
+
+fresh-answered : (F S : List ℕ) → FreshAnswered F S
+unfolding freshNumber freshLeft freshTable fileTable rising
+fresh-answered F S = record {
+  number = by-table (freshTable F S) refl refl;
+  untouched = λ h. rw (ne-eqb (freshNumber F S) 0 h);
+  written = λ z. rw z;
+}
 
 pub demand1 : Demand1
-unfolding Demand1
-demand1 F R L = go (ℕ-discrete (refusal F R L) 0)
-  where
-    go : Dec (refusal F R L ≡ 0) → Answered F R L
-    go (yes z) = when-kept F R L z
-    go (no n) = when-broken F R L n
+demand1 = record { calls = answered; checks = checked; sizes = sized; fresh = fresh-answered }

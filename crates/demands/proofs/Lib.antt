@@ -1,4 +1,9 @@
 pub mod Demand1
 pub mod Demand2
 pub mod Demand3
+pub mod Accepted
 pub mod Listing
+pub mod ListingText
+pub mod Traces
+pub mod Pair
+pub mod Second

@@ -1,1 +1,4 @@
 pub mod Demands
+pub mod Listing
+pub mod Examples
+pub mod Words

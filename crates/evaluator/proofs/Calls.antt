@@ -5,7 +5,7 @@ use lib.Dec.{leb}
 use Rattle.wire.specs.Places.{all}
 use Rattle.wire.specs.Tables.{first, AllKept}
 use Rattle.wire.proofs.Places.{both-left, both-right}
-use Rattle.wire.proofs.Tables.{numbered, numbered-append, first-zero, first-kept, first-broken}
+use Rattle.wire.proofs.Tables.{numbered, first-zero, first-kept, first-broken}
 use Rattle.project.specs.declared.Counts.{Counts}
 use Rattle.project.specs.Project.{Project, groupCount, inputCount, recordSize, countsIn}
 use Rattle.casefile.specs.Bodies.{projectOf}
@@ -20,11 +20,6 @@ use Rattle.evaluator.specs.Answer.{controlOk, inputFits, recordOk, Lent,
 use Rattle.evaluator.specs.Answer.{refusal, leaves, cycleOf}
 use Rattle.evaluator.specs.Asks.{Admitted}
 use Rattle.evaluator.proofs.Checking.{Taken, taken, groups-counted, blocks-counted, outputs-counted}
-
--- no row of a call's table has the number 0
-pub table-numbered : (F R : List ℕ) (L : Lent) → numbered (callTable F R L) ≡ true
-unfolding callTable numbered
-table-numbered F R L = numbered-append (fileTable F) (callRows (projectOf F) R L) (file-numbered F) refl
 
 -- a record that is one of the project's has its size
 pub sized : (G I R : List ℕ) → recordOk G I R ≡ true → length R ≡ recordSize G I
@@ -115,10 +110,6 @@ module _ (F R : List ℕ) (L : Lent) where
     pub call-done : cycleOf F R L ≡ leaves 0 (projectOf F) R L
     unfolding cycleOf
     call-done = rw e
-
-    kept : AllKept (callTable F R L)
-    unfolding refusal
-    kept = first-zero (callTable F R L) (table-numbered F R L) .0 e
 
     -- the file is accepted
     pub file-zero : first (fileTable F) ≡ 0

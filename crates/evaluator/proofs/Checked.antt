@@ -142,9 +142,9 @@ module _ {c : Counts} {G B K E R S D : List ℕ} (r : Ready c G B K E R S D) whe
         (drop (stateHead (c .groups)) S)
         ∙ omega (arith, row-length (c .groups) (groupWith E G R S), length-drop (stateHead (c .groups)) S, heads-fit)
 
-    pub running : (D1 : List ℕ) → D1 ≡ replicate (length D) 0 → Running (c .groups) B R H K S1 D1 (c .blocks)
+    pub running : Running (c .groups) B R H K S1 D (c .blocks)
     unfolding findingsLength
-    running D1 z = record {
+    running = record {
       standing = standing (t .sound) heads count S1 (decided-long ∙ t .size);
       count = count;
       due = λ b k. due (t .sound) heads count R H b (r .given) (d .long) (rw count at k);
@@ -153,7 +153,7 @@ module _ {c : Counts} {G B K E R S D : List ℕ} (r : Ready c G B K E R S D) whe
       ranked =
           subst (λ (l : List ℕ). Ranked B (c .blocks) l) (sym (t .order))
           (subst (λ (k : ℕ). Ranked B k (orderList B)) (sym count) (order-ranked (t .sound)));
-      clean = z ∙ ap (λ (k : ℕ). replicate k 0) (t .room ∙ ap (λ (k : ℕ). findingSize * k) (sym count));
+      clean = t .clean ∙ ap (λ (k : ℕ). replicate (findingSize * k) 0) (sym count);
     }
       where
         o : Ordered B (c .blocks)
@@ -251,8 +251,10 @@ module _ {c : Counts} {G B W R S O D : List ℕ} (m : Admitted c G B W R S O D) 
   pub in-order : Ordered B (c .blocks)
   in-order = ordered (m .sound) (m .groups) (m .blocks)
 
-  pub ready : (K E : List ℕ) → K ≡ orderList B → E ≡ errorList (c .groups) B S → Ready c G B K E R S D
-  ready K E k e = record {
+  -- where the findings are cleared
+  pub ready : (K E D1 : List ℕ) → K ≡ orderList B → E ≡ errorList (c .groups) B S →
+      D1 ≡ replicate (length D) 0 → Ready c G B K E R S D1
+  ready K E D1 k e d = record {
     inputs = m .inputs;
     begun = record {
       sound = m .sound;
@@ -262,7 +264,7 @@ module _ {c : Counts} {G B W R S O D : List ℕ} (m : Admitted c G B W R S O D) 
       errors = e ∙ ap (λ (h : ℕ). errorList h B S) (m .groups);
       size = m .state;
       formed = m .formed;
-      room = m .findings;
+      clean = d ∙ ap (λ (n : ℕ). replicate n 0) (m .findings);
     };
     given = m .given;
   }

@@ -9,8 +9,8 @@ pub mod Deciding
 pub mod Ranking
 pub mod Cycles
 pub mod Checked
-pub mod Words
 pub mod Checking
 pub mod Calls
+pub mod Few
 pub mod FreshFormed
 pub mod Stepping

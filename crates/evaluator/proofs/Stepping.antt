@@ -12,7 +12,6 @@ use Rattle.casefile.specs.Refusal.{fileTable}
 use Rattle.casefile.proofs.Refusals.{number-zero}
 use Rattle.casefile.proofs.Accepted.{accepted}
 use Rattle.block.specs.Finding.{findingSize}
-use Rattle.evaluator.specs.declared.Answer.the-variants.{Refused}
 use Rattle.evaluator.specs.State.{stateLength, outputsLength, findingsLength, stateFormed}
 use Rattle.evaluator.specs.Packed.{entries, packed}
 use Rattle.evaluator.specs.Cycle.{newOutputs, newFindings, enters, finding, outputWord}

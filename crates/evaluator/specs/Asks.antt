@@ -190,7 +190,7 @@ outputShown h B O S o = portShows B (outputBlock O o) (outputPort O o) (cell h S
 
 -- 01, "One cycle": what a trace has between two cycles: the bodies of a project's groups and blocks, of which it has n
 -- external inputs, the counts, the blocks by execution number, the groups with an error, a well-formed state of its
--- size, and room for the findings
+-- size, and zeros for the findings
 pub record Begun (c : Counts) (n : ℕ) (G B K E S D : List ℕ) : Type 0 where
   pub sound : Sound G B n
   pub groups : c .groups ≡ groupCount G
@@ -199,7 +199,7 @@ pub record Begun (c : Counts) (n : ℕ) (G B K E S D : List ℕ) : Type 0 where
   pub errors : E ≡ errorList (groupCount G) B S
   pub size : length S ≡ stateLength G B
   pub formed : stateFormed G B S ≡ true
-  pub room : length D ≡ findingsLength B
+  pub clean : D ≡ replicate (findingsLength B) 0
 
 -- 01, "One cycle": what a cycle asks: all that, and a record of its size
 pub record Ready (c : Counts) (G B K E R S D : List ℕ) : Type 0 where

@@ -4,7 +4,7 @@ ghost use Rattle.evaluator.specs.Cycle.{newState, newOutputs, newFinding
 ghost use Rattle.evaluator.specs.Asks.{Ready, Admitted};
 use project::Counts;
 
-// The groups decide, the blocks run, and the findings are packed. Answers how many there are.
+// The groups decide, the blocks run, and the findings are packed in a buffer of zeros. Answers how many there are.
 pub fn advance(
     c: Counts,
     groups: &[u8],
@@ -25,7 +25,6 @@ pub fn advance(
 {
     let h = c.groups;
     let n = c.blocks;
-    wire::clear(findings);
     let phases = crate::groups::decide(groups, h, rec, errors, state);
     let some = crate::turns::take_turns(blocks, h, n, ranks, rec, &phases, state, findings);
     if !some {
@@ -59,6 +58,7 @@ pub fn whole_cycle(
 {
     let h = c.groups;
     let n = c.blocks;
+    wire::clear(findings);
     let order = crate::ranks::ranks(blocks, n);
     let errors = crate::groups::error_groups(blocks, h, n, state);
     let count = advance(c, groups, blocks, &order, &errors, rec, state, findings);

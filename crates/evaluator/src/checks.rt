@@ -118,16 +118,17 @@ fn first_bad_control(c: Counts, groups: &[u8], rec: &[u8]) -> usize
     g
 }
 
-// 12: a word of its type. Of the number types only INT16 and UINT16 leave words out.
+// 12: a word of its type. 0 and 1 are words of every type.
 fn word_ok(t: u8, w: u32) -> bool
     ensures { λ r. ⌜ r ≡ wordOk t w ⌝ }
 {
-    match t {
-        0 => (w <= 32767) | (4294934528 <= w),
-        1 => w <= 65535,
-        4 => w <= 1,
-        _ => true,
+    if w <= 1 {
+        return true;
     }
+    if t == kind::BOOL {
+        return false;
+    }
+    numbers::fits(numbers::type_of(t), w)
 }
 
 // 12: the first input whose word is not of its type, or the number of inputs.

@@ -1,13 +1,12 @@
 // The evaluator: one cycle of a project over a case file, a record and lent buffers, the sizes of those buffers, and
-// the fresh state. Every call checks all that it is given, gives each input an answer, and where it turns a call down,
-// writes nothing. `specs/Answer.antt` says what a call answers and leaves, `specs/Cycle.antt` what a cycle is. Below
-// the calls nobody knows the file: a project is its bodies.
+// the fresh state. Every call over a file checks all that it is given, gives each input an answer, and where it turns
+// a call down, writes nothing. `specs/Answer.antt` says what a call answers and leaves, `specs/Cycle.antt` what a cycle
+// is. Below these calls nobody knows the file: a project is its bodies. The module `unchecked` is for a trace, whose
+// file is checked once.
 ghost use mathlib.Core.Path.{_≡_};
-ghost use Rattle.project.specs.Project.{inputCount};
+ghost use Rattle.casefile.specs.Bodies.{startsOf};
 ghost use Rattle.evaluator.specs.Answer.{lends, refusal, cycleOf};
 ghost use Rattle.evaluator.specs.Fresh.{sizesOf, freshNumber, freshLeft};
-ghost use Rattle.evaluator.specs.Steps.{stepAnswer, stepState, stepFindings};
-ghost use Rattle.evaluator.specs.Asks.{Standing, Grouped, Ordered, Begun, Listed, orderList, errorList};
 
 mod advance;
 mod checks;
@@ -18,9 +17,11 @@ mod parts;
 mod ranks;
 mod start;
 mod turns;
+pub mod unchecked;
 
 use block::FINDING_SIZE;
 use block::STATE_SIZE;
+use casefile::Starts;
 use project::Counts;
 use project::WORD_SIZE;
 
@@ -33,8 +34,16 @@ pub enum Answer {
     Refused(u8),
 }
 
-// The number with which a call is turned down, 0 where it is not.
-fn call_refusal(file: &[u8], rec: &[u8], state: &[u8], outputs: &[u8], findings: &[u8]) -> u8
+// The number with which a call is turned down, 0 where it is not. The starts are those of the file's bodies.
+fn call_refusal(
+    file: &[u8],
+    starts: Starts,
+    rec: &[u8],
+    state: &[u8],
+    outputs: &[u8],
+    findings: &[u8],
+) -> u8
+    requires { ⌜ starts ≡ startsOf (now file) ⌝ }
     ensures { λ r. ⌜ r ≡ refusal (now (file .entry)) (now (rec .entry))
         (lends (now (state .entry)) (now (outputs .entry)) (now (findings .entry))) ⌝ }
 {
@@ -42,10 +51,10 @@ fn call_refusal(file: &[u8], rec: &[u8], state: &[u8], outputs: &[u8], findings:
     if number != 0 {
         return number;
     }
-    let groups = casefile::body(file, casefile::BODY_G);
-    let inputs = casefile::body(file, casefile::BODY_I);
-    let blocks = casefile::body(file, casefile::BODY_B);
-    let rows = casefile::body(file, casefile::BODY_O);
+    let groups = casefile::body(file, starts, casefile::BODY_G);
+    let inputs = casefile::body(file, starts, casefile::BODY_I);
+    let blocks = casefile::body(file, starts, casefile::BODY_B);
+    let rows = casefile::body(file, starts, casefile::BODY_O);
     let c = project::counts_of(groups, inputs, blocks, rows);
     if !checks::sizes_ok(c, state.len(), outputs.len(), findings.len()) {
         return 10;
@@ -59,8 +68,8 @@ fn call_refusal(file: &[u8], rec: &[u8], state: &[u8], outputs: &[u8], findings:
     0
 }
 
-// A call that is turned down with a number. Every one is answered here, and leaves the buffers that it was lent as they
-// were.
+// A cycle call that is turned down with a number. Every one is answered here, and leaves the buffers that it was lent
+// as they were.
 fn turned_down(number: u8, state: &mut [u8], outputs: &mut [u8], findings: &mut [u8]) -> Answer
     ensures answered { λ r. ⌜ r ≡ Answer.Refused number ⌝ }
     ensures kept { λ _. ⌜ lends (now (state .exit)) (now (outputs .exit)) (now (findings .exit))
@@ -90,14 +99,15 @@ pub fn cycle(
         ≡ cycleOf (now (file .entry)) (now (rec .entry))
         (lends (now (state .entry)) (now (outputs .entry)) (now (findings .entry))) .lent .findings ⌝ }
 {
-    let number = call_refusal(file, rec, state, outputs, findings);
+    let starts = casefile::starts_of(file);
+    let number = call_refusal(file, starts, rec, state, outputs, findings);
     if number != 0 {
         return turned_down(number, state, outputs, findings);
     }
-    let groups = casefile::body(file, casefile::BODY_G);
-    let inputs = casefile::body(file, casefile::BODY_I);
-    let blocks = casefile::body(file, casefile::BODY_B);
-    let rows = casefile::body(file, casefile::BODY_O);
+    let groups = casefile::body(file, starts, casefile::BODY_G);
+    let inputs = casefile::body(file, starts, casefile::BODY_I);
+    let blocks = casefile::body(file, starts, casefile::BODY_B);
+    let rows = casefile::body(file, starts, casefile::BODY_O);
     let c = project::counts_of(groups, inputs, blocks, rows);
     let count = advance::whole_cycle(c, groups, blocks, rows, rec, state, outputs, findings);
     Answer::Findings(count)
@@ -150,55 +160,4 @@ pub fn fresh(file: &[u8], state: &mut [u8]) -> u8
     }
     start::write_fresh(GROUPS_AT + groups, blocks, state);
     0
-}
-
-// ---- for a whole trace, whose file is checked once. What these three require is what `fresh` has tested, the bodies
-// of the file with their counts, a findings buffer of its size, and what they themselves leave.
-
-// The blocks by execution number.
-pub fn block_order(c: Counts, blocks: &[u8]) -> [u8; 64]
-    requires { ⌜ Ordered (now blocks) (c .blocks) ⌝ }
-    ensures { λ r. ⌜ r ≡ orderList (now (blocks .entry)) ⌝ }
-{
-    ranks::ranks(blocks, c.blocks)
-}
-
-// The groups that have a block in ERROR, a byte each.
-pub fn groups_in_error(c: Counts, blocks: &[u8], state: &[u8]) -> [u8; 8]
-    requires { ⌜ Standing (now blocks) (now state) (c .groups) ⌝ }
-    requires { ⌜ Grouped (now blocks) (c .blocks) ⌝ }
-    ensures { λ r. ⌜ r ≡ errorList (c .groups) (now (blocks .entry)) (now (state .entry)) ⌝ }
-{
-    groups::error_groups(blocks, c.groups, c.blocks, state)
-}
-
-// One cycle of an accepted project from a well-formed state.
-pub fn step(
-    c: Counts,
-    groups: &[u8],
-    inputs: &[u8],
-    blocks: &[u8],
-    order: &[u8],
-    errors: &[u8],
-    rec: &[u8],
-    state: &mut [u8],
-    findings: &mut [u8],
-) -> Answer
-    requires { ⌜ Listed c (now groups) (now inputs) ⌝ }
-    requires { ⌜ Begun c (inputCount (now inputs)) (now groups) (now blocks) (now order) (now errors) (now state)
-        (now findings) ⌝ }
-    ensures answered { λ r. ⌜ r ≡ stepAnswer (now (groups .entry)) (now (inputs .entry)) (now (blocks .entry))
-        (now (rec .entry)) (now (state .entry)) ⌝ }
-    ensures left { λ _. ⌜ now (state .exit)
-        ≡ stepState (now (groups .entry)) (now (inputs .entry)) (now (blocks .entry)) (now (rec .entry))
-        (now (state .entry)) ⌝ }
-    ensures told { λ _. ⌜ now (findings .exit)
-        ≡ stepFindings (now (groups .entry)) (now (inputs .entry)) (now (blocks .entry)) (now (rec .entry))
-        (now (state .entry)) (now (findings .entry)) ⌝ }
-{
-    if !checks::record_ok(c, groups, inputs, rec) {
-        return Answer::Refused(12);
-    }
-    let count = advance::advance(c, groups, blocks, order, errors, rec, state, findings);
-    Answer::Findings(count)
 }

@@ -2,7 +2,7 @@
 -- quotient, and the definitions of `specs/` at a sign and a magnitude. Every law is by cases on the signs. Assumes
 -- nothing.
 use mathlib.Core.Path.{_≡_, refl, sym, ap, _∙_, subst⁻¹}
-use mathlib.Core.Bool.{Bool, true, false, not, _&&_}
+use mathlib.Core.Bool.{Bool, true, false, not}
 use Prim.Native.Nat.{ℕ, zero, suc, _+_, _-_, _*_, _/_, _%_, _^_, _≤_, _<_, zero-le}
 use native.Mathlib.Nat.{mul-zero, zero-mul, add-zero, sub-zero, le-of-lt, lt-of-le-of-lt, mul-le-mul-left}
 use native.Mathlib.Nat.{mul-lt-mul-of-pos-right, zero-div, zero-mod, not-suc-le-zero}
@@ -13,7 +13,7 @@ use lib.Dec.{ltb, leb, leb·suc-suc, eqb·suc-zero, lit<, lit≤}
 use lib.IntN.{ℤ, pos, negsuc, negℤ, natAbs, subℕ, _+ℤ_, _*ℤ_, +ℤ-comm, negℤ-+ℤ, negℤ-negℤ}
 use lib.IntN.{zero-*ℤ}
 use lib.Signed.{ltZ, leZ}
-use Rattle.numbers.specs.Types.{sgn, isNeg, signed, zOf, isSigned, under, over, lo, hi, value, inside, wordOf}
+use Rattle.numbers.specs.Types.{sgn, isNeg, signed, zOf, isSigned, under, over, value, wordOf}
 use Rattle.numbers.specs.Results.{differ, settled, away, roundedDiv, quotient}
 use Rattle.numbers.specs.declared.Rounding.{Rounding}
 use Rattle.numbers.specs.declared.Rounding.the-variants.{Floor, Ceil, Round}
@@ -121,6 +121,16 @@ neg-less zero n = not-less 0 n ∙ sym (le-ltb n 0 zero-le)
 neg-less (suc m) zero = sym (lt-ltb 0 (suc m) (omega arith))
 neg-less (suc m) (suc n) = sym (leb·suc-suc (suc n) m)
 
+pub neg-le : (m n : ℕ) → leZ (negℤ (pos m)) (negℤ (pos n)) ≡ leb n m
+neg-le zero zero = refl
+neg-le zero (suc n) = sym (lt-leb (suc n) 0 (omega arith))
+neg-le (suc m) zero = sym (le-leb 0 (suc m) zero-le)
+neg-le (suc m) (suc n) = sym (leb·suc-suc n m)
+
+pub neg-le-pos : (m n : ℕ) → leZ (negℤ (pos m)) (pos n) ≡ true
+neg-le-pos zero n = le-leb 0 n zero-le
+neg-le-pos (suc m) n = refl
+
 -- ---- settling
 
 -- every type fits in 32 bits
@@ -158,40 +168,6 @@ settles-above t m h = rw (not-less m (under t), lt-ltb (over t) m h)
 pub settles-pos : (t : NumType) (m : ℕ) → m ≤ over t → Value m ≡ settled t (pos m)
 unfolding settled
 settles-pos t m h = rw (not-less m (under t), le-ltb (over t) m h)
-
--- ---- a well-formed word
-
-pub neg-le : (m n : ℕ) → leZ (negℤ (pos m)) (negℤ (pos n)) ≡ leb n m
-neg-le zero zero = refl
-neg-le zero (suc n) = sym (lt-leb (suc n) 0 (omega arith))
-neg-le (suc m) zero = sym (le-leb 0 (suc m) zero-le)
-neg-le (suc m) (suc n) = sym (leb·suc-suc n m)
-
-pub neg-le-pos : (m n : ℕ) → leZ (negℤ (pos m)) (pos n) ≡ true
-neg-le-pos zero n = le-leb 0 n zero-le
-neg-le-pos (suc m) n = refl
-
-and-true : (b : Bool) → b && true ≡ b
-and-true true = refl
-and-true false = refl
-
-within-neg : (t : NumType) (z : ℤ) → isNeg z ≡ true → leb (natAbs z) (under t) ≡ leZ (lo t) z && leZ z (hi t)
-within-neg t (pos n) e = let x : _≡_ {A = ℕ} 0 1 = cc in absurd (omega arith)
-within-neg t (negsuc n) e = rw (neg-le (under t) (suc n)) (sym (and-true (leb (suc n) (under t))))
-
-within-pos : (t : NumType) (z : ℤ) → isNeg z ≡ false → leb (natAbs z) (over t) ≡ leZ (lo t) z && leZ z (hi t)
-within-pos t (pos n) e = rw (neg-le-pos (under t) n)
-within-pos t (negsuc n) e = let x : _≡_ {A = ℕ} 0 1 = cc in absurd (omega arith)
-
-pub inside-neg : (t : NumType) (w : ℕ) → isNeg (value t w) ≡ true →
-    leb (natAbs (value t w)) (under t) ≡ inside t w
-unfolding inside
-inside-neg t w e = within-neg t (value t w) e
-
-pub inside-pos : (t : NumType) (w : ℕ) → isNeg (value t w) ≡ false →
-    leb (natAbs (value t w)) (over t) ≡ inside t w
-unfolding inside
-inside-pos t w e = within-pos t (value t w) e
 
 -- ---- quotients
 

@@ -1,16 +1,19 @@
 -- Integer ranges, once over the type. A result that the type holds is stored whole: the word's value is the result, and
 -- the word is well formed; a result is Below exactly when it is below the type's least number, Above exactly when it is
 -- above the greatest. A word is stored back as itself. By cases on the number's sign, and on the type only where its
--- reach is compared with 2 ^ 31. Assumes nothing.
-use mathlib.Core.Path.{_≡_, refl, ap, _∙_, subst}
+-- reach is compared with 2 ^ 31. Which words are a type's is one law, `words-of`. Assumes nothing.
+use mathlib.Core.Path.{_≡_, refl, sym, ap, _∙_, subst}
 use mathlib.Core.Bool.{Bool, true, false, cond, _&&_}
-use Prim.Native.Nat.{ℕ, suc, _-_, _^_, _≤_, _<_}
+use Prim.Native.Nat.{ℕ, suc, _+_, _-_, _%_, _^_, _≤_, _<_}
+use native.Mathlib.Nat.{lt-of-not-le}
 use native.Mathlib.Omega.{arith}
-use borrow.Author.Tests.{le-leb, lt-leb, leb-true}
+use native.Mathlib.Decide.{decLe}
+use borrow.Author.Tests.{le-leb, lt-leb, leb-true, leb-false}
 use lib.Dec.{T, leb, leb→le}
 use lib.IntN.{ℤ, pos, negsuc, negℤ, natAbs, subℕ}
 use lib.Signed.{ltZ, leZ, ltZ-no, ltZ-yes, leZ-yes, clashℤ, _≤ℤ_, _<ℤ_}
-use Rattle.numbers.proofs.Laws.{sub-lt, abs-sgn, over-small, neg-le, not-less, word-neg}
+use Rattle.numbers.proofs.Laws.{sub-lt, abs-sgn, under-small, over-small, neg-le, neg-le-pos, not-less}
+use Rattle.numbers.proofs.Laws.{word-neg}
 use Rattle.numbers.specs.Types.{isSigned, lo, hi, under, over, value, inside, wordOf}
 use Rattle.numbers.specs.Results.{exact, settled, outcome}
 use Rattle.numbers.specs.declared.NumType.{NumType}
@@ -18,6 +21,23 @@ use Rattle.numbers.specs.declared.NumType.the-variants.{Int16, Uint16, I
 use Rattle.numbers.specs.declared.Op.{Op}
 use Rattle.numbers.specs.declared.Outcome.{Outcome}
 use Rattle.numbers.specs.declared.Outcome.the-variants.{Below, Above, Value}
+
+-- ---- the type's reach and 2 ^ 31
+
+-- the words that stand for themselves: those of a type with no numbers below 0, and those below 2 ^ 31
+stands-low : (t : NumType) (w : ℕ) → w < 4294967296 → isSigned t && leb 2147483648 w ≡ false →
+    w + under t < 4294967296
+stands-low Int16 w h e = omega (arith, leb-false 2147483648 w e)
+stands-low Uint16 w h e = omega arith
+stands-low Int32 w h e = omega (arith, leb-false 2147483648 w e)
+stands-low Uint32 w h e = omega arith
+
+-- the others are past the type's greatest number
+stands-high : (t : NumType) (w : ℕ) → isSigned t && leb 2147483648 w ≡ true → over t < w
+stands-high Int16 w e = omega (arith, leb-true 2147483648 w e)
+stands-high Uint16 w e = let x : _≡_ {A = ℕ} 0 1 = cc in absurd (omega arith)
+stands-high Int32 w e = omega (arith, leb-true 2147483648 w e)
+stands-high Uint32 w e = let x : _≡_ {A = ℕ} 0 1 = cc in absurd (omega arith)
 
 -- ---- from a word to its number and back
 
@@ -59,17 +79,22 @@ back n h =
 
 up : (t : NumType) (n : ℕ) → n ≤ over t → value t n ≡ pos n
 unfolding value
-up Int16 n h = rw (lt-leb 2147483648 n (omega arith))
-up Uint16 n h = refl
-up Int32 n h = rw (lt-leb 2147483648 n (omega arith))
-up Uint32 n h = refl
+up t n h = pick (isSigned t && leb 2147483648 n) refl
+  where
+    pick : (b : Bool) → isSigned t && leb 2147483648 n ≡ b → cond b (subℕ n 4294967296) (pos n) ≡ pos n
+    pick false e = refl
+    pick true e = absurd (omega (arith, stands-high t n e))
 
 down : (t : NumType) (n : ℕ) → suc n ≤ under t → value t (4294967296 - suc n) ≡ negsuc n
 unfolding value
-down Int16 n h = rw (le-leb 2147483648 (4294967296 - suc n) (omega arith)) (back n (omega arith))
-down Uint16 n h = absurd (omega arith)
-down Int32 n h = rw (le-leb 2147483648 (4294967296 - suc n) (omega arith)) (back n h)
-down Uint32 n h = absurd (omega arith)
+down t n h = pick (isSigned t && leb 2147483648 (4294967296 - suc n)) refl
+  where
+    w : ℕ
+    w = 4294967296 - suc n
+
+    pick : (b : Bool) → isSigned t && leb 2147483648 w ≡ b → cond b (subℕ w 4294967296) (pos w) ≡ negsuc n
+    pick true e = back n (omega (arith, under-small t))
+    pick false e = absurd (omega (arith, under-small t, stands-low t w (omega arith) e))
 
 -- what the type holds comes back from its word
 pub word-value : (t : NumType) (z : ℤ) → lo t ≤ℤ z → z ≤ℤ hi t → value t (wordOf z) ≡ z
@@ -173,6 +198,39 @@ outcome-value op ta a tb b t w e = settled-value t (exact op (value ta a) (value
 
 -- ---- well-formed words
 
+same-side : (a b c d : ℕ) → (a ≤ b → c ≤ d) → (b < a → d < c) → leb a b ≡ leb c d
+same-side a b c d p q = go (decLe a b)
+  where
+    go : Dec (a ≤ b) → leb a b ≡ leb c d
+    go (yes l) = le-leb a b l ∙ sym (le-leb c d (p l))
+    go (no n) = let l = lt-of-not-le n in lt-leb a b l ∙ sym (lt-leb c d (q l))
+
+and-true : (b : Bool) → b && true ≡ b
+and-true true = refl
+and-true false = refl
+
+-- The law of a type's words: counted from the word of the least number, and round 2 ^ 32, they are the first ones, as
+-- many as the type has numbers.
+pub words-of : (t : NumType) (w : ℕ) → w < 2 ^ 32 → leb ((w + under t) % 2 ^ 32) (under t + over t) ≡ inside t w
+unfolding inside value
+words-of t w h = pick (isSigned t && leb 2147483648 w) refl
+  where
+    z : Bool → ℤ
+    z b = cond b (subℕ w 4294967296) (pos w)
+
+    pick : (b : Bool) → isSigned t && leb 2147483648 w ≡ b →
+        leb ((w + under t) % 4294967296) (under t + over t) ≡ leZ (lo t) (z b) && leZ (z b) (hi t)
+    pick false e =
+        let l = stands-low t w h e in
+        rw (neg-le-pos (under t) w)
+        (same-side ((w + under t) % 4294967296) (under t + over t) w (over t) (λ k. omega arith) (λ k. omega arith))
+    pick true e =
+        let o = stands-high t w e in
+        let m = 4294967296 - w in
+        rw (sub-lt h, neg-le (under t) m, neg-le-pos m (over t), and-true (leb m (under t)))
+        (same-side ((w + under t) % 4294967296) (under t + over t) m (under t)
+        (λ k. omega (arith, under-small t)) (λ k. omega (arith, under-small t)))
+
 -- a well-formed word's number is stored as that word
 pub stored-again : (t : NumType) (w : ℕ) → inside t w ≡ true → w < 2 ^ 32 → settled t (value t w) ≡ Value w
 unfolding inside
@@ -182,10 +240,14 @@ stored-again t w f h =
     let u : z ≤ℤ hi t = leZ-yes (rw (and-right (leZ (lo t) z) (leZ z (hi t)) f) tt) in
     settled-inside t z l u ∙ ap Value (value-word t w h)
 
--- 0 is a number of every type
-pub zero-inside : (t : NumType) → inside t 0 ≡ true
-unfolding inside value
-zero-inside Int16 = refl
-zero-inside Uint16 = refl
-zero-inside Int32 = refl
-zero-inside Uint32 = refl
+-- 0 and 1 are numbers of every type
+one-over : (t : NumType) → 1 ≤ over t
+one-over Int16 = omega arith
+one-over Uint16 = omega arith
+one-over Int32 = omega arith
+one-over Uint32 = omega arith
+
+pub bit-inside : (t : NumType) (w : ℕ) → w ≤ 1 → inside t w ≡ true
+bit-inside t w l =
+    sym (words-of t w (omega arith))
+    ∙ le-leb ((w + under t) % 4294967296) (under t + over t) (omega (arith, under-small t, one-over t))

@@ -233,15 +233,25 @@ pub fn settle(t: NumType, v: Signed) -> Outcome
     }
 }
 
-// Whether a word is well formed for its type.
+// Whether a word is well formed for its type: counted from the word of the type's least number, and round 2 ^ 32, the
+// type's words are the first ones.
+fn is_among(t: NumType, w: u32) -> bool
+    ensures { λ r. ⌜ r ≡ inside t w ⌝ }
+{
+    let low = low_mag(t);
+    let high = high_mag(t);
+    ((w as u64) + low) % 4294967296 <= low + high
+}
+
+// The same, with the type known in each arm, so that its limits are constants there.
 pub fn fits(t: NumType, w: u32) -> bool
     ensures { λ r. ⌜ r ≡ inside t w ⌝ }
 {
-    let v = load(t, w);
-    if v.neg {
-        v.mag <= low_mag(t)
-    } else {
-        v.mag <= high_mag(t)
+    match t {
+        NumType::Int16 => is_among(NumType::Int16, w),
+        NumType::Uint16 => is_among(NumType::Uint16, w),
+        NumType::Int32 => is_among(NumType::Int32, w),
+        NumType::Uint32 => is_among(NumType::Uint32, w),
     }
 }
 

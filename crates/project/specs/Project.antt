@@ -108,7 +108,7 @@ linkIndexIn R p = byteAt R (linkStart + linkSize * p + 1)
 abbrev pub linkPortIn : List ℕ → ℕ → ℕ
 linkPortIn R p = byteAt R (linkStart + linkSize * p + 2)
 
--- what the three bytes of a link name; a kind that is unknown names nothing
+-- 01, "The case file", Link: what the three bytes name; a kind that is unknown names nothing
 abbrev pub pick : Bool → Source → Source → Source
 pick true s t = s
 pick false s t = t
@@ -116,7 +116,7 @@ pick false s t = t
 abbrev pub sourceFrom : ℕ → ℕ → ℕ → Source
 sourceFrom k i q = pick (eqb k 1) (External i) (pick (eqb k 2) (Output i q) Nothing)
 
--- what input port p of the block is linked to
+-- 01, "The case file", Link: what input port p of the block is linked to
 unfoldable pub linkIn : List ℕ → ℕ → Source
 linkIn R p = sourceFrom (linkKindIn R p) (linkIndexIn R p) (linkPortIn R p)
 
@@ -185,11 +185,11 @@ recordSize G I = headSize + groupCount G + wordSize * inputCount I
 abbrev pub fileMost : ℕ
 fileMost = 65536
 
--- the size of a cycle record as a number of the machine; 0 for bodies that no file has
+-- 01, "The case file", T: the size of a cycle record as a number of the machine; 0 for bodies that no file has
 unfoldable pub sizeCounted : List ℕ → List ℕ → ℕ
 sizeCounted G I = cond (leb (length G) fileMost && leb (length I) fileMost) (recordSize G I) 0
 
--- the device, how many records each body has, and the size of a cycle record
+-- 01, "The case file": the device, how many records each body has, and the size of a cycle record
 unfoldable pub countsOf : List ℕ → List ℕ → List ℕ → List ℕ → Counts
 countsOf G I B O = record {
   device = device G;

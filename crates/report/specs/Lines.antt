@@ -54,12 +54,16 @@ endLine cycles findings = endWord ++ field (decimal cycles) ++ field (decimal fi
 unfoldable pub refusedLine : ℕ → List ℕ
 refusedLine number = refusedWord ++ field (decimal number) ++ lineFeed
 
--- general: a line was stored at the front of a buffer, and its length was told. That it is at most 96 bytes long
--- follows from the line (proofs/Lines); it is said here so that whoever lends a buffer of 96 bytes finds it.
+-- no line has more bytes (proofs/Lines)
+abbrev pub lineMost : ℕ
+lineMost = 96
+
+-- general: a line was stored at the front of a buffer, and its length was told. How long it may be follows from the
+-- line; it is said here so that whoever lends a buffer of so many bytes finds it.
 pub record Printed (line before after : List ℕ) (size : ℕ) : Type 0 where
   pub bytes : after ≡ sets before 0 line
   pub whole : size ≡ length line
-  pub short : size ≤ 96
+  pub short : size ≤ lineMost
 
 -- general: text was stored in a buffer from `at` on, and the place behind it was told
 pub record Put (text before : List ℕ) (at : ℕ) (after : List ℕ) (next : ℕ) : Type 0 where

@@ -1,6 +1,6 @@
 // The lines that the trace program prints, as bytes in a lent buffer: a finding, the end, a refusal. Each function
 // stores its line at the front of the buffer and answers the line's length. What lies past the end of the buffer is
-// not stored; a buffer of 96 bytes takes every line whole.
+// not stored; a buffer of `LINE_MOST` bytes takes every line whole.
 ghost use mathlib.Core.Path.{_≡_};
 ghost use Prim.Native.Nat.{_+_, _≤_};
 ghost use Rattle.numbers.specs.Types.{value};
@@ -8,6 +8,9 @@ ghost use lib.ListN.{length, set};
 ghost use Rattle.report.specs.Decimal.{decimal, signedDecimal};
 ghost use Rattle.report.specs.Lines.{field, findingLine, endLine, refusedLine, Printed, Put};
 use numbers::NumType;
+
+// No line has more bytes.
+pub const LINE_MOST: usize = 96;
 
 // A byte at a place, where the buffer reaches that far.
 fn put_byte(out: &mut [u8], at: usize, b: u8)

@@ -1,2 +1,3 @@
 pub mod Starting
 pub mod Turning
+pub mod Lining

@@ -1,13 +1,22 @@
 -- What a fresh state that was written, or was not, says of its file, and what an accepted file's bodies and counts give
 -- to each call of a trace. Assumes nothing.
-use Rattle.wire.proofs.Usual.{_≡_, refl, sym, ap, ap₂, _∙_, _≢_, true, List, ℕ, zero, suc, _/_, _<_}
-use Rattle.wire.proofs.Usual.{ℕ-discrete, arith, length}
+use Rattle.wire.proofs.Usual.{_≡_, refl, sym, ap, ap₂, _∙_, _≢_, Bool, true, false, cond, _&&_, List, [], ℕ}
+use Rattle.wire.proofs.Usual.{zero, suc, _/_, _<_, _≤_, ℕ-discrete, arith, ltb, length, replicate, drop}
+use Rattle.wire.proofs.Usual.{length-drop}
+use borrow.Author.Tests.{leb-true}
+use native.Mathlib.Nat.{div-le-self, min-le-right}
+use lib.Dec.{leb}
+use lib.ListN.{length-take}
 use Rattle.wire.specs.Tables.{first}
+use Rattle.wire.proofs.Places.{both-right}
+use Rattle.contents.specs.Contents.{contentsSize, contentsOk, bodyStart, bodySize, bodyOf}
 use Rattle.project.specs.declared.Counts.{Counts}
-use Rattle.project.specs.Project.{rowOf, groupCount, inputCount, recordSize, countsIn}
-use Rattle.casefile.specs.Bodies.{projectOf, recordCount, recordOf}
+use Rattle.project.specs.Project.{rowOf, fileMost, groupCount, inputCount, recordSize, countsIn}
+use Rattle.casefile.specs.Bodies.{bodyCount, bodyG, bodyI, bodyT, bodyIn, projectOf, recordCount}
+use Rattle.casefile.specs.Bodies.{recordOf}
+use Rattle.casefile.specs.Rules.{sizeOk}
 use Rattle.casefile.specs.Refusal.{fileTable}
-use Rattle.casefile.proofs.Refusals.{number-zero}
+use Rattle.casefile.proofs.Refusals.{number-zero, every}
 use Rattle.casefile.proofs.Accepted.{accepted}
 use Rattle.evaluator.specs.State.{stateLength, findingsLength, stateFormed}
 use Rattle.evaluator.specs.Fresh.{freshNumber, freshLeft, freshFor}
@@ -56,8 +65,34 @@ module _ (F S : List ℕ) where
 
 -- ---- an accepted file
 
+-- a body is no longer than its file
+body-short : (F : List ℕ) (e : ℕ) → length (bodyIn F e) ≤ length F
+unfolding bodyIn bodyOf
+body-short F e = go (contentsOk bodyCount F && ltb e bodyCount)
+  where
+    go : (b : Bool) → length (cond b (bodyOf F e) []) ≤ length F
+    go true =
+        let rest = drop (bodyStart F e) F in
+        omega (
+          arith,
+          length-take (bodySize F e) rest,
+          length-drop (bodyStart F e) F,
+          min-le-right (bodySize F e) (length rest),
+        )
+    go false = omega arith
+
 pub taken-of : (F : List ℕ) → first (fileTable F) ≡ 0 → Taken (projectOf F)
 taken-of F z = taken F (accepted F (number-zero F z))
+
+-- it is no longer than 65,536 bytes, so it has no more records
+pub few-records : (F : List ℕ) → first (fileTable F) ≡ 0 → recordCount F ≤ 65536
+unfolding recordCount sizeOk
+few-records F z =
+    let t = every F (number-zero F z) in
+    let h : sizeOk F ≡ true = search t in
+    let T = bodyIn F bodyT in
+    let l = leb-true (length F) fileMost (both-right (leb (contentsSize bodyCount) (length F)) _ h) in
+    omega (arith, div-le-self (length T) (recordSize (bodyIn F bodyG) (bodyIn F bodyI)), body-short F bodyT)
 
 pub ordered-of : (F : List ℕ) (c : Counts) (B : List ℕ) → first (fileTable F) ≡ 0 →
     c ≡ countsIn (projectOf F) → B ≡ projectOf F .blocks → Ordered B (c .blocks)
@@ -88,7 +123,7 @@ module _ {F : List ℕ} {c : Counts} {G I B T K D : List ℕ} (s : Started F c G
   pub begun-of : (E S D : List ℕ) → E ≡ errorList (c .groups) B S →
       length S ≡ stateLength (projectOf F .groups) (projectOf F .blocks) →
       stateFormed (projectOf F .groups) (projectOf F .blocks) S ≡ true →
-      length D ≡ findingsLength (projectOf F .blocks) → Begun c (inputCount I) G B K E S D
+      D ≡ replicate (findingsLength (projectOf F .blocks)) 0 → Begun c (inputCount I) G B K E S D
   begun-of E S D e l f d = record {
     sound = rw (s .groups, s .inputs, s .blocks) (t .sound);
     groups = heads ∙ ap groupCount (sym (s .groups));
@@ -97,7 +132,7 @@ module _ {F : List ℕ} {c : Counts} {G I B T K D : List ℕ} (s : Started F c G
     errors = e ∙ ap (λ (h : ℕ). errorList h B S) (heads ∙ ap groupCount (sym (s .groups)));
     size = rw (s .groups, s .blocks) l;
     formed = rw (s .groups, s .blocks) f;
-    room = rw (s .blocks) d;
+    clean = rw (s .blocks) d;
   }
 
   pub size-some : 0 < c .size

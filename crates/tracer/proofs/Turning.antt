@@ -1,7 +1,7 @@
 -- The turns of a trace: before each, the calls that are left are a run from what the last one left; a record that is
 -- taken goes on with the next, and another ends the trace. Assumes nothing.
-use Rattle.wire.proofs.Usual.{_≡_, refl, sym, ap, ap₂, _∙_, Bool, true, false, cond, List, [], _∷_, ℕ, suc}
-use Rattle.wire.proofs.Usual.{_+_, _-_, _%_, _≤_, _<_, arith, drop, length-replicate}
+use Rattle.wire.proofs.Usual.{_≡_, refl, sym, ap, _∙_, Bool, true, false, cond, List, [], _∷_, ℕ, suc}
+use Rattle.wire.proofs.Usual.{_+_, _-_, _≤_, _<_, arith, length, replicate, drop, length-replicate}
 use native.Mathlib.Nat.{sub-zero}
 use lib.Seq.{drop-drop}
 use Rattle.wire.specs.Tables.{first}
@@ -17,9 +17,11 @@ use Rattle.evaluator.specs.Fresh.{freshFor}
 use Rattle.evaluator.specs.Steps.{stepAnswer, stepState, stepFindings}
 use Rattle.evaluator.proofs.FreshFormed.{fresh-length, fresh-state-formed}
 use Rattle.evaluator.proofs.Stepping.{Stepped, stepped, sizes-of}
+use Rattle.evaluator.proofs.Few.{few-found, none-found}
 use Rattle.tracer.specs.declared.End.{End}
 use Rattle.tracer.specs.declared.End.the-variants.{Refused as Halted, Ran}
-use Rattle.tracer.specs.Traced.{recordsFrom, freshLent, calls, goesOn, ended, runEnd, lastState, stateAfter}
+use Rattle.tracer.specs.Traced.{recordsFrom, freshLent, calls, goesOn, ended, runEnd}
+use Rattle.tracer.specs.Text.{linesOf, textsFrom, texts, Told}
 use Rattle.tracer.proofs.Starting.{taken-of}
 
 -- before cycle k of n, with the state S and the count of findings t so far
@@ -29,10 +31,8 @@ pub record Here (F : List ℕ) (n k t : ℕ) (S : List ℕ) : Type 0 where
   pub sizes : sizesOk (projectOf F) lent ≡ true
   pub formed : stateFormed (projectOf F .groups) (projectOf F .blocks) (lent .state) ≡ true
   pub left : drop k (calls F) ≡ run F (recordsFrom F k (n - k)) lent
-  pub found : ℕ
-  pub count : t ≡ found % 4294967296
-  pub ends : ended k found (drop k (calls F)) ≡ runEnd F
-  pub last : lastState (lent .state) (drop k (calls F)) ≡ stateAfter F
+  pub ends : ended k t (drop k (calls F)) ≡ runEnd F
+  pub told : drop k (texts F) ≡ textsFrom (projectOf F .blocks) k (drop k (calls F))
 
 pub formed-here : {F : List ℕ} {n k t : ℕ} {S : List ℕ} → Here F n k t S →
     stateFormed (projectOf F .groups) (projectOf F .blocks) S ≡ true
@@ -41,7 +41,7 @@ formed-here h = rw (h .state) (h .formed)
 -- at the start
 pub begins : (F : List ℕ) (n : ℕ) {S : List ℕ} → first (fileTable F) ≡ 0 → n ≡ recordCount F →
     S ≡ freshFor (projectOf F) → Here F n 0 0 S
-unfolding freshLent calls runEnd stateAfter
+unfolding freshLent calls runEnd texts
 begins F n z e s =
     let P = projectOf F in
     record {
@@ -52,20 +52,14 @@ begins F n z e s =
           (length-replicate {A = ℕ} (findingsLength (P .blocks)) 0);
       formed = fresh-state-formed P (taken-of F z .sound);
       left = ap (λ (m : ℕ). run F (recordsFrom F 0 m) (freshLent F)) (sym (sub-zero n ∙ e));
-      found = 0;
-      count = refl;
       ends = refl;
-      last = refl;
+      told = refl;
     }
 
 -- after the last
-pub ran : {F : List ℕ} {n k t : ℕ} {S : List ℕ} → Here F n k t S → n ≤ k → {x y : ℕ} →
-    x ≡ k % 4294967296 → y ≡ t → (Ran x y ≡ runEnd F) × (S ≡ stateAfter F)
-unfolding ended lastState run recordsFrom
-ran {F} {n} {k} h l f g = (
-  ap₂ Ran f (g ∙ h .count) ∙ sym (ap (ended k (h .found)) none) ∙ h .ends,
-  h .state ∙ sym (ap (lastState (h .lent .state)) none) ∙ h .last,
-)
+pub ran : {F : List ℕ} {n k t : ℕ} {S : List ℕ} → Here F n k t S → n ≤ k → Ran k t ≡ runEnd F
+unfolding ended run recordsFrom
+ran {F} {n} {k} {t} h l = sym (ap (ended k t) none) ∙ h .ends
   where
     none : drop k (calls F) ≡ []
     none =
@@ -121,40 +115,67 @@ module _ {F : List ℕ} {n k t : ℕ} {S : List ℕ} (h : Here F n k t S) (l : k
   rest : drop (k + 1) (calls F) ≡ later F n k (h .lent)
   rest = sym (drop-drop 1 k (calls F)) ∙ ap (drop 1) unrolled
 
-  abbrev now-left : List ℕ
-  now-left = call F k (h .lent) .lent .state
-
   -- what the trace ends with, where the call answers a
   abbrev end-by : Answer → End
-  end-by a = goesOn a Halted (λ x. ended (k + 1) (h .found + x) (later F n k (h .lent)))
-
-  abbrev state-by : Answer → List ℕ
-  state-by a = goesOn a (λ _. now-left) (λ _. lastState now-left (later F n k (h .lent)))
+  end-by a = goesOn a Halted (λ x. ended (k + 1) (t + x) (later F n k (h .lent)))
 
   ends-by : {a : Answer} → a ≡ call F k (h .lent) .answer → end-by a ≡ runEnd F
   unfolding ended
-  ends-by e = ap end-by e ∙ sym (ap (ended k (h .found)) unrolled) ∙ h .ends
+  ends-by e = ap end-by e ∙ sym (ap (ended k t) unrolled) ∙ h .ends
 
-  leaves-by : {a : Answer} → a ≡ call F k (h .lent) .answer → state-by a ≡ stateAfter F
-  unfolding lastState
-  leaves-by e = ap state-by e ∙ sym (ap (lastState (h .lent .state)) unrolled) ∙ h .last
+  -- what is printed from this cycle on
+  abbrev texts-with : Answer → List (List ℕ)
+  texts-with a =
+      let B = projectOf F .blocks in
+      goesOn a (λ _. []) (λ m. linesOf B (k + 1) m (call F k (h .lent) .lent .findings)
+      ∷ textsFrom B (k + 1) (later F n k (h .lent)))
+
+  texts-by : {a : Answer} → a ≡ call F k (h .lent) .answer → drop k (texts F) ≡ texts-with a
+  unfolding textsFrom
+  texts-by e = h .told ∙ ap (textsFrom (projectOf F .blocks) k) unrolled ∙ sym (ap texts-with e)
+
+  -- the lines of a record that is taken
+  pub tells : {a : Answer} {m : ℕ} {S1 D1 B : List ℕ} → a ≡ Findings m →
+      Turned (call F k (h .lent)) a S1 D1 → B ≡ projectOf F .blocks → {c : ℕ} → c ≡ k + 1 →
+      Told F c (linesOf B c m D1)
+  tells {m = m} e u b i =
+      let rest = textsFrom (projectOf F .blocks) (k + 1) (later F n k (h .lent)) in
+      record {
+        before = k;
+        later = rest;
+        number = i;
+        here = texts-by (sym e ∙ u .answer) ∙ sym (λ j. linesOf (b j) (i j) m (u .findings e j) ∷ rest);
+      }
+
+  -- it has few findings, and where it has none zeros
+  pub finds-few : {a : Answer} {m : ℕ} {S1 D1 : List ℕ} → a ≡ Findings m →
+      Turned (call F k (h .lent)) a S1 D1 → m ≤ 64
+  finds-few {m = m} e u = few-found F (recordOf F k) (h .lent) m (sym e ∙ u .answer)
+
+  pub finds-none : {a : Answer} {m : ℕ} {S1 D1 : List ℕ} → a ≡ Findings m →
+      Turned (call F k (h .lent)) a S1 D1 → m ≡ 0 → D1 ≡ replicate (length D1) 0
+  finds-none {D1 = D1} e u z =
+      let n = findingsLength (projectOf F .blocks) in
+      let zeros : D1 ≡ replicate n 0 =
+      u .findings e ∙ none-found F (recordOf F k) (h .lent) (sym (e ∙ ap Findings z) ∙ u .answer) in
+      zeros ∙ ap (λ (m : ℕ). replicate m 0) (sym (ap length zeros ∙ length-replicate {A = ℕ} n 0))
 
   -- a record that is taken
   pub goes-on : first (fileTable F) ≡ 0 → {a : Answer} {m : ℕ} {S1 D1 : List ℕ} → a ≡ Findings m →
-      Turned (call F k (h .lent)) a S1 D1 → Here F n (k + 1) ((t + m) % 4294967296) S1
+      Turned (call F k (h .lent)) a S1 D1 → Here F n (k + 1) (t + m) S1
   goes-on z {a} {m} e u = record {
     lent = call F k (h .lent) .lent;
     state = u .state;
     sizes = made z h .sizes;
     formed = made z h .formed;
     left = rest;
-    found = h .found + m;
-    count = omega (arith, h .count);
-    ends = ap (ended (k + 1) (h .found + m)) rest ∙ ends-by (sym e ∙ u .answer);
-    last = ap (lastState now-left) rest ∙ leaves-by (sym e ∙ u .answer);
+    ends = ap (ended (k + 1) (t + m)) rest ∙ ends-by (sym e ∙ u .answer);
+    told =
+        sym (drop-drop 1 k (texts F)) ∙ ap (drop 1) (texts-by (sym e ∙ u .answer))
+        ∙ sym (ap (textsFrom (projectOf F .blocks) (k + 1)) rest);
   }
 
   -- one that is turned down
   pub stops : {a : Answer} {m : ℕ} {S1 D1 : List ℕ} → a ≡ Refused m → Turned (call F k (h .lent)) a S1 D1 →
-      (Halted m ≡ runEnd F) × (S1 ≡ stateAfter F)
-  stops e u = (ends-by (sym e ∙ u .answer), u .state ∙ leaves-by (sym e ∙ u .answer))
+      Halted m ≡ runEnd F
+  stops e u = ends-by (sym e ∙ u .answer)

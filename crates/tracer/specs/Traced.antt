@@ -1,9 +1,8 @@
 -- What a trace is (01, "The trace program"): a run of cycle calls over the records of the file, each once and in their
 -- order, from the fresh state. What it tells of them ends at the first that is turned down. F is the file.
-use Prim.Native.Nat.{ℕ, zero, suc, _+_, _%_}
-use mathlib.Core.Path.{_≡_}
+use Prim.Native.Nat.{ℕ, zero, suc, _+_}
 use mathlib.Core.List.{List, [], _∷_}
-use lib.ListN.{drop, replicate}
+use lib.ListN.{replicate}
 use Rattle.wire.specs.Tables.{first}
 use Rattle.casefile.specs.Bodies.{projectOf, recordCount, recordOf}
 use Rattle.casefile.specs.Refusal.{fileTable}
@@ -44,7 +43,7 @@ goesOn (Refused m) ends on = ends m
 -- 01, "The trace program": the last line has the counts of cycles and findings, or says that a record was turned down.
 -- The calls come after c cycles with n findings
 unfoldable pub ended : ℕ → ℕ → List Left → End
-ended c n [] = Ran (c % 4294967296) (n % 4294967296)
+ended c n [] = Ran c n
 ended c n (l ∷ ls) = goesOn (l .answer) Halted (λ k. ended (c + 1) (n + k) ls)
 
 unfoldable pub runEnd : List ℕ → End
@@ -58,22 +57,7 @@ unlessRefused (suc n) e = Halted (suc n)
 unfoldable pub endOf : List ℕ → End
 endOf F = unlessRefused (first (fileTable F)) (runEnd F)
 
--- 01, "The trace program": the state that the calls lead to from S, up to the first that is turned down
-unfoldable pub lastState : List ℕ → List Left → List ℕ
-lastState S [] = S
-lastState S (l ∷ ls) = goesOn (l .answer) (λ _. l .lent .state) (λ _. lastState (l .lent .state) ls)
-
-unfoldable pub stateAfter : List ℕ → List ℕ
-stateAfter F = lastState (freshLent F .state) (calls F)
-
--- ---- what it prints
-
--- 01, "The trace program": the lines of a cycle show its findings, n of them in D, and its number c, counted from 1
-pub record Told (F : List ℕ) (c n : ℕ) (D : List ℕ) : Type 0 where
-  pub at : ℕ
-  pub call : Left
-  pub later : List Left
-  pub here : drop at (calls F) ≡ call ∷ later
-  pub number : c ≡ (at + 1) % 4294967296
-  pub count : Findings n ≡ call .answer
-  pub found : D ≡ call .lent .findings
+-- 01, "The trace program": the number that an end stands for, 0 where all cycles have run
+abbrev pub endNumber : End → ℕ
+endNumber (Halted n) = n
+endNumber (Ran cycles findings) = 0

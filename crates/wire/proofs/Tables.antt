@@ -137,13 +137,6 @@ module _ (rs : List Row) {k : ℕ} (e : k ≡ firstBad (keptAt rs) (length rs)) 
 
 -- ---- one table after another
 
-pub numbered-append : (a b : List Row) → numbered a ≡ true → numbered b ≡ true → numbered (a ++ b) ≡ true
-unfolding numbered
-numbered-append [] b h g = g
-numbered-append (r ∷ a) b h g =
-    rw (both-left (ltb 0 (r .number)) (numbered a) h)
-    (numbered-append a b (both-right (ltb 0 (r .number)) (numbered a) h) g)
-
 -- the second table's number where the first is kept, the first's where it is not
 pub first-kept : (a b : List Row) → AllKept a → first (a ++ b) ≡ first b
 unfolding first

@@ -8,8 +8,9 @@ pub const BOOL: u8 = 4;
 pub const EL6900: u8 = 0;
 pub const EL6910: u8 = 1;
 
-pub const LINKS_AT: usize = 16;
+pub const ORDER_AT: usize = 2;
 pub const PARAMETERS_AT: usize = 4;
+pub const LINKS_AT: usize = 16;
 pub const LARGEST_FILE: usize = 65_536;
 
 #[derive(Clone, Default)]
@@ -89,6 +90,15 @@ impl Case {
 
     pub fn group(&self, block: usize) -> u8 {
         self.block(block)[1]
+    }
+
+    /// The execution number.
+    pub fn order(&self, block: usize) -> u8 {
+        self.block(block)[ORDER_AT]
+    }
+
+    pub fn set_order(&mut self, block: usize, number: u8) {
+        self.block_mut(block)[ORDER_AT] = number;
     }
 
     pub fn parameter(&self, block: usize, place: usize) -> u8 {

@@ -170,7 +170,8 @@ impl Coverage {
         row("findings in a cycle", &words(&["0", "1", "2", "more"]));
         row("", &counts(&self.findings));
         let [groups, inputs, blocks, outputs, bytes] = self.largest;
-        let most = format!("{groups} groups, {inputs} inputs, {blocks} blocks, {outputs} outputs, a file of {bytes} bytes");
+        let most =
+            format!("{groups} groups, {inputs} inputs, {blocks} blocks, {outputs} outputs, a file of {bytes} bytes");
         writeln!(text, "  most in an accepted cycle: {most}").unwrap();
         text
     }

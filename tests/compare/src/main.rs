@@ -9,6 +9,7 @@ mod pipe;
 mod project;
 mod protocol;
 mod random;
+mod renumber;
 mod request;
 mod traces;
 
@@ -29,8 +30,13 @@ compare --calls N [--seed S] [--small] [--checks] PROGRAM [ARG..]
     projects are small. --checks: only files are asked about (C), no cycles (Y).
 compare --replay FILE PROGRAM [ARG..]
     Sends the requests of FILE and shows both answers to each.
-compare --corpus N IN OUT [--seed S]
-    Writes N requests over small projects to IN and the reference's answers to OUT; asks no program.
+compare --renumber N [--seed S] [--alone] PROGRAM [ARG..]
+    Runs PROGRAM (`batch`) on N projects twice, in two execution orders that are alike along every link: sequences of
+    cycle calls, refused ones among them, whose answers must be the same, and the reference's. --alone: they are not
+    held against the reference's.
+compare --corpus N IN OUT [--renumber M] [--seed S]
+    Writes N requests over small projects, and after them the calls over M renumbered ones, to IN and the reference's
+    answers to OUT; asks no program.
 compare --traces N [--seed S] PROGRAM [ARG..]
     Runs PROGRAM (`trace`) on N files, and compares what it prints with the reference.
 compare --protocol [--checks] PROGRAM [ARG..]
@@ -41,11 +47,13 @@ The seed is 1 where none is given. The same seed gives the same requests everywh
 struct Options {
     calls: Option<u64>,
     traces: Option<u64>,
+    renumber: Option<u64>,
     corpus: Option<(u64, String, String)>,
     replay: Option<String>,
     protocol: bool,
     small: bool,
     checks: bool,
+    alone: bool,
     seed: u64,
     program: Vec<String>,
 }
@@ -63,11 +71,13 @@ fn options() -> Result<Options, String> {
         match word.as_str() {
             "--calls" => options.calls = Some(number(value()?)?),
             "--traces" => options.traces = Some(number(value()?)?),
+            "--renumber" => options.renumber = Some(number(value()?)?),
             "--seed" => options.seed = number(value()?)?,
             "--replay" => options.replay = Some(value()?),
             "--corpus" => options.corpus = Some((number(value()?)?, value()?, value()?)),
             "--small" => options.small = true,
             "--checks" => options.checks = true,
+            "--alone" => options.alone = true,
             "--protocol" => options.protocol = true,
             _ => return Err(format!("unknown option {word}\n{HELP}")),
         }
@@ -82,11 +92,13 @@ fn options() -> Result<Options, String> {
 fn main() -> ExitCode {
     let done = options().and_then(|options| {
         if let Some((count, requests, answers)) = &options.corpus {
-            corpus(*count, requests, answers, options.seed)
+            corpus(*count, options.renumber.unwrap_or(0), requests, answers, options.seed)
         } else if let Some(file) = &options.replay {
             replay(file, &options.program)
         } else if let Some(count) = options.traces {
             traces::compare(count, options.seed, &options.program)
+        } else if let Some(count) = options.renumber {
+            renumber::compare(count, options.seed, options.alone, &options.program)
         } else if options.protocol {
             protocol::compare(options.checks, &options.program)
         } else if let Some(count) = options.calls {
@@ -165,7 +177,8 @@ fn disagreement(
     let name = format!("disagreement-{seed}-{call}.request");
     let written = std::fs::write(&name, content).map_or_else(|error| error.to_string(), |()| how.to_string());
     format!(
-        "DISAGREEMENT at call {call} (seed {seed})\n  reference: {}\n  program:   {}\n  {name}: {written}. Replay: --replay {name}",
+        "DISAGREEMENT at call {call} (seed {seed})\n  reference: {}\n  program:   {}\n  {name}: {written}. \
+         Replay: --replay {name}",
         request.describe(expected),
         request.describe(answer),
     )
@@ -195,7 +208,7 @@ fn replay(file: &str, program: &[String]) -> Result<(), String> {
     }
 }
 
-fn corpus(count: u64, requests: &str, answers: &str, seed: u64) -> Result<(), String> {
+fn corpus(count: u64, pairs: u64, requests: &str, answers: &str, seed: u64) -> Result<(), String> {
     let create = |name: &str| File::create(name).map(BufWriter::new).map_err(|error| format!("{name}: {error}"));
     let (mut to, mut from) = (create(requests)?, create(answers)?);
     let mut calls = Calls::new(seed, true, false);
@@ -208,10 +221,12 @@ fn corpus(count: u64, requests: &str, answers: &str, seed: u64) -> Result<(), St
     }
     print!("{}", coverage.table());
     let missing = coverage.missing(true);
-    if missing.is_empty() {
-        println!("{count} requests written (seed {seed}); everything came up");
-        Ok(())
-    } else {
-        Err(format!("these did not come up: {}", missing.join("; ")))
+    if !missing.is_empty() {
+        return Err(format!("these did not come up: {}", missing.join("; ")));
     }
+    println!("{count} requests written (seed {seed}); everything came up");
+    if pairs > 0 {
+        renumber::corpus(pairs, seed, &mut to, &mut from)?;
+    }
+    Ok(())
 }

@@ -18,7 +18,8 @@ pub struct Server {
 
 impl Server {
     pub fn start(program: &[String]) -> io::Result<Server> {
-        let mut child = Command::new(&program[0]).args(&program[1..]).stdin(Stdio::piped()).stdout(Stdio::piped()).spawn()?;
+        let mut child =
+            Command::new(&program[0]).args(&program[1..]).stdin(Stdio::piped()).stdout(Stdio::piped()).spawn()?;
         let requests = child.stdin.take();
         let answers = child.stdout.take().expect("the output is a pipe");
         let child = Arc::new(Mutex::new(child));

@@ -28,6 +28,15 @@ impl Size {
         }
     }
 
+    /// Mostly with several blocks.
+    pub fn several(random: &mut Random) -> Size {
+        match random.below(16) {
+            0 => Size::Large,
+            1..=9 => Size::Middle,
+            _ => Size::Small,
+        }
+    }
+
     fn blocks(self, random: &mut Random) -> usize {
         match self {
             Size::Small => random.between(1, 3) as usize,

@@ -19,13 +19,15 @@ pub fn compare(checks: bool, program: &[String]) -> Result<(), String> {
                 expected.extend(answer);
             }
             input.extend(bad);
-            let (printed, said, ended) = pipe::run(program, &input).map_err(|error| format!("{}: {error}", program[0]))?;
+            let (printed, said, ended) =
+                pipe::run(program, &input).map_err(|error| format!("{}: {error}", program[0]))?;
             let said = String::from_utf8_lossy(&said).into_owned();
             let number = (good + 1).to_string();
             let names_it = said.split(|c: char| !c.is_ascii_digit()).any(|word| word == number);
             if printed != expected || !ended || said.lines().count() != 1 || !said.ends_with('\n') || !names_it {
                 return Err(format!(
-                    "{name}, after {good} good requests: {} bytes of answers where {} were due, ended normally: {ended}, said {said:?}",
+                    "{name}, after {good} good requests: {} bytes of answers where {} were due, \
+                     ended normally: {ended}, said {said:?}",
                     printed.len(),
                     expected.len()
                 ));
@@ -34,7 +36,8 @@ pub fn compare(checks: bool, program: &[String]) -> Result<(), String> {
         }
     }
     fitting(program)?;
-    println!("{tried} breaches of the pipe's rules, each ended with the answers before it and one line; buffers that just fit are answered");
+    println!("{tried} breaches of the pipe's rules, each ended with the answers before it and one line");
+    println!("buffers that just fit are answered");
     Ok(())
 }
 

@@ -15,7 +15,9 @@ impl Request {
     pub fn bytes(&self) -> Vec<u8> {
         let (letter, buffers) = match self {
             Request::Check { file } => (b'C', vec![file]),
-            Request::Cycle { file, record, state, outputs, findings } => (b'Y', vec![file, record, state, outputs, findings]),
+            Request::Cycle { file, record, state, outputs, findings } => {
+                (b'Y', vec![file, record, state, outputs, findings])
+            }
         };
         let mut bytes = vec![letter];
         for buffer in buffers {

@@ -19,7 +19,9 @@ pub fn compare(count: u64, seed: u64, program: &[String]) -> Result<(), String> 
         if printed != expected.as_bytes() || !ended {
             let name = format!("disagreement-{seed}-{number}.case");
             std::fs::write(&name, &file).map_err(|error| format!("{name}: {error}"))?;
-            return Err(format!("DISAGREEMENT at trace {number} (seed {seed}), ended normally: {ended}; the file is {name}"));
+            return Err(format!(
+                "DISAGREEMENT at trace {number} (seed {seed}), ended normally: {ended}; the file is {name}"
+            ));
         }
         for line in expected.lines() {
             let kind = ["finding", "end", "refused"].iter().position(|word| line.starts_with(word));
@@ -30,7 +32,9 @@ pub fn compare(count: u64, seed: u64, program: &[String]) -> Result<(), String> 
         }
     }
     let [findings, ends, refusals] = lines;
-    println!("{count} traces compared, no disagreement (seed {seed}): {findings} findings, {ends} ends, {refusals} refusals");
+    println!(
+        "{count} traces compared, no disagreement (seed {seed}): {findings} findings, {ends} ends, {refusals} refusals"
+    );
     Ok(())
 }
 

@@ -46,7 +46,8 @@ is-project c =
     let o = c .before in
     let b = o .before in
     let n = b .before in
-    bodies-are _ (n .before .body .ensures) (n .body2 .ensures) (b .body3 .ensures) (o .body4 .ensures)
+    bodies-are _ (start-of (else-of c .before) .pre) (n .before .body .ensures) (n .body2 .ensures) (b .body3 .ensures)
+    (o .body4 .ensures)
 
 tested : (c : tie.After-counts-of) → Taken (project-of c)
 tested c =

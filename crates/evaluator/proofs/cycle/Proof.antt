@@ -11,7 +11,7 @@ use Rattle.evaluator.proofs.cycle.Statement.{statement}
 use Rattle.evaluator.proofs.cycle.Tie as tie
 
 abbrev start-of : tie.After-call-refusal → tie.Start
-start-of c = c .before .before .before .before .before .before .before .before .before
+start-of c = c .before .before .before .before .before .before .before .before .before .before
 
 -- what the call is lent
 abbrev lent-of : tie.After-call-refusal → Lent
@@ -75,7 +75,9 @@ is-project c =
     let o = c .before in
     let b = o .before in
     let n = b .before in
-    bodies-are _ (n .before .body .ensures) (n .body2 .ensures) (b .body3 .ensures) (o .body4 .ensures)
+    let t = else-of c .before .before .before .before .before in
+    bodies-are _ (t .starts-of .ensures .0) (n .before .body .ensures) (n .body2 .ensures) (b .body3 .ensures)
+    (o .body4 .ensures)
 
 whole-cycle-requires : tie.Need-whole-cycle-requires
 whole-cycle-requires c κs =
@@ -103,7 +105,9 @@ returns-2 c =
 
 pub cycle-spec : {M : Type 1} → statement M
 cycle-spec = tie.close (tie.spec
-    (λ c κs. search needs) (λ c κs. search needs) (λ c. search needs) (λ c. search needs) (λ c. search needs)
+    (λ c κs. search needs)
+    (λ c κs. c .before .before .before .starts-of .ensures .0)
+    (λ c κs. search needs) (λ c. search needs) (λ c. search needs) (λ c. search needs)
     returns
     (λ c κs. search needs) (λ c κs. search needs) (λ c κs. search needs) (λ c κs. search needs)
     (λ c κs. search needs)

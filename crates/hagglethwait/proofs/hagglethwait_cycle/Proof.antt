@@ -4,7 +4,7 @@ use Rattle.wire.proofs.Usual.{_≡_, sym, ap, _∙_, _<_, arith, needs, now}
 use Rattle.evaluator.specs.declared.Answer.the-variants.{Findings, Refused}
 use Rattle.evaluator.specs.Answer.{Left}
 use Rattle.hagglethwait.specs.Calls.{callOf, answerNumber}
-use Rattle.hagglethwait.proofs.Counts.{few}
+use Rattle.evaluator.proofs.Few.{few-found}
 use Rattle.hagglethwait.proofs.Signs.{count-fits, count-is, minus-fits, minus-is}
 use Rattle.hagglethwait.proofs.hagglethwait_cycle.Statement.{statement}
 use Rattle.hagglethwait.proofs.hagglethwait_cycle.Tie as tie
@@ -24,7 +24,7 @@ module _ (c : tie.After-known-told) where
   counted = sym (c .before .answer .given .1) ∙ called .cycle .ensures .0
 
   small : c .before .answer .given .0 .0 < 2147483648
-  small = omega (arith, few _ _ _ _ counted)
+  small = omega (arith, few-found _ _ _ _ counted)
 
 module _ (c : tie.After-known-told2) where
   abbrev called2 : tie.After-cycle

@@ -7,7 +7,7 @@ use Rattle.evaluator.proofs.advance.advance.Statement.{statement}
 use Rattle.evaluator.proofs.advance.advance.Tie as tie
 
 abbrev start-of : tie.After-decide → tie.Start
-start-of c = c .before .before .before .before .before .before .before .before .before .before .before .before .before
+start-of c = c .before .before .before .before .before .before .before .before .before
 
 abbrev decided-of : tie.After-take-turns → tie.After-decide
 decided-of c = c .before .before .before .before .before .before
@@ -18,7 +18,6 @@ take-turns-requires c κs =
     let s = start-of d in
     let a = s .args in
     running (s .pre) _ _ (d .decide .ensures .0) (d .decide .ensures .1)
-    _ (d .before .before .before .before .clear .ensures)
 
 -- no block entered ERROR
 returns : tie.Need-returns
@@ -62,9 +61,8 @@ returns-2 c =
 
 pub advance-spec : {M : Type 1} → statement M
 advance-spec = tie.close (tie.spec
-    (λ c κs. search needs)
     (λ c κs.
-    let s = c .before .before .before .before .before .before .before .before .before .before .before .before in
+    let s = c .before .before .before .before .before .before .before .before in
     let a = s .args in (
       few-heads (s .pre),
       heads-fit (s .pre),

@@ -7,7 +7,7 @@ use Rattle.evaluator.proofs.advance.whole_cycle.Statement.{statement}
 use Rattle.evaluator.proofs.advance.whole_cycle.Tie as tie
 
 abbrev start-of : tie.After-ranks → tie.Start
-start-of c = c .before .before .before .before .before .before .before .before
+start-of c = c .before .before .before .before .before .before .before .before .before .before .before .before
 
 advance-requires : tie.Need-advance-requires
 advance-requires c κs =
@@ -15,7 +15,7 @@ advance-requires c κs =
     let k = e .before .before in
     let s = start-of k in
     let a = s .args in
-    ready (s .pre) _ _ (k .ranks .ensures) (e .error-groups .ensures)
+    ready (s .pre) _ _ _ (k .ranks .ensures) (e .error-groups .ensures) (k .before .before .before .clear .ensures)
 
 returns : tie.Need-returns
 returns c =
@@ -29,8 +29,9 @@ returns c =
 
 pub whole-cycle-spec : {M : Type 1} → statement M
 whole-cycle-spec = tie.close (tie.spec
+    (λ c κs. search needs)
     (λ c κs.
-    let s = c .before .before .before .before .before .before .before in
+    let s = c .before .before .before .before .before .before .before .before .before .before .before in
     let a = s .args in
     in-order (s .pre))
     (λ c κs.

@@ -1,12 +1,12 @@
--- `evaluator::step` meets its contract: the test of the record says which case holds.
+-- `evaluator::unchecked::step` meets its contract: the test of the record says which case holds.
 use Rattle.wire.proofs.Usual.{ap, needs, now}
 use Rattle.wire.proofs.Places.{ok, bad}
 use Rattle.project.specs.Project.{recordSize}
 use Rattle.evaluator.specs.declared.Answer.the-variants.{Findings}
 use Rattle.evaluator.specs.Steps.{stepAnswer, stepState, stepFindings}
 use Rattle.evaluator.proofs.Calls.{sized}
-use Rattle.evaluator.proofs.step.Statement.{statement}
-use Rattle.evaluator.proofs.step.Tie as tie
+use Rattle.evaluator.proofs.unchecked.step.Statement.{statement}
+use Rattle.evaluator.proofs.unchecked.step.Tie as tie
 
 abbrev start-of : tie.After-record-ok → tie.Start
 start-of c = c .before .before .before .before .before .before .before .before .before
