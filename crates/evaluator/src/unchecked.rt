@@ -1,7 +1,7 @@
 // For a whole trace, whose file is checked once (01, "The trace program"). This is the one part of the product whose
 // public functions require something (DECISIONS 29): what `fresh` has tested, the bodies of the file with their counts,
-// a findings buffer of its size, and what they themselves leave. The crate `tracer` proves it; whoever has not checked
-// the file calls `cycle`.
+// the state that they themselves leave, and zeros of the findings' size. The crate `tracer` proves it; whoever has not
+// checked the file calls `cycle`.
 ghost use mathlib.Core.Path.{_≡_};
 ghost use Rattle.project.specs.Project.{inputCount};
 ghost use Rattle.evaluator.specs.Steps.{stepAnswer, stepState, stepFindings};

@@ -29,7 +29,7 @@ pub record Started (F : List ℕ) (c : Counts) (G I B T K D : List ℕ) : Type 0
   pub order : K ≡ orderList B
   pub clean : D ≡ replicate (findingsLength (projectOf F .blocks)) 0
 
--- 01, "Turned down", Sizes: a file's counts, and buffers that have their sizes where the file is accepted
+-- 01, "Turned down", Sizes: a file's counts, and buffers of their sizes where the file is accepted, zeros for findings
 pub record Offered (F : List ℕ) (c : Counts) (S D : List ℕ) : Type 0 where
   pub counts : c ≡ countsIn (projectOf F)
   pub size : first (fileTable F) ≡ 0 → length S ≡ stateLength (projectOf F .groups) (projectOf F .blocks)
