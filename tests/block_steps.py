@@ -13,6 +13,7 @@ The group's byte is computed here as well, by the three steps of document 01, "O
 second implementation leaves another one, where it refuses a cycle of a sequence, and where something that has to come
 up does not.
 """
+import itertools
 import pathlib
 import random
 import struct
@@ -26,7 +27,7 @@ GREATEST = [2**15 - 1, 2**16 - 1, 2**31 - 1, 2**32 - 1]
 PORTS_OUT = {DECOUPLE: 8, TWOHAND: 2, ADD: 2, SUB: 2, MUL: 2, DIV: 2}
 RUN, ACK, COM, FAULT = 1, 2, 4, 8
 RUN_ACK = RUN | ACK
-ERROR = 4
+RUNNING, ERROR = 1, 4
 FRESH = bytes([2]) + bytes(15)
 LENT = bytes([238])
 
@@ -97,6 +98,21 @@ def group_step(held, group, pending):
     return held, 1 if held == 0 else 3 if held == 3 else 2
 
 
+def quotient(block, words):
+    """What is seen of a DIV that divided: of its rounding, the divisor's type and the quotient's sign whether the
+    remainder is 0, below half the divisor, the last one below it, half, the first one above it or above; and of its
+    rounding whether the double of the remainder takes more than 32 bits."""
+    a, b = (w - 2**32 if t in (INT16, INT32) and w >= 2**31 else w for t, w in zip(block.parameters, words))
+    rest, rounding = abs(a) % abs(b), block.parameters[3]
+    more = 2 * rest - abs(b)
+    fraction = 'none' if rest == 0 else 'half' if more == 0 else ('above' if more > 0 else 'below')
+    if fraction in ('above', 'below') and abs(more) <= 2:
+        fraction = 'just ' + fraction
+    yield (DIV, 'quotient', rounding, block.parameters[1], 'below 0' if a * b < 0 else '0 or above', fraction)
+    if 2 * rest >= 2**32:
+        yield (DIV, 'remainder of 2^31 or more', rounding)
+
+
 class Vectors:
     """The requests and their answers, and what came up."""
 
@@ -142,6 +158,8 @@ class Vectors:
             self.seen.add((block.kind, 'step', before[1], state[1]))
             if state[1] == ERROR != before[1]:
                 self.seen.add((block.kind, 'diagnosis', state[3]))
+            if block.kind == DIV and state[1] == RUNNING and words[1] != 0:
+                self.seen.update(quotient(block, words))
 
     def states(self, block, states):
         """Whether each state is well formed."""
@@ -283,6 +301,17 @@ def directed_arithmetic(vectors):
             vectors.sequence(block, [(group, 10, w) for group, w in path])
 
 
+def directed_quotients(vectors):
+    """DIV with quotients of either sign just below, at and just above a half, and around 1: by 2 and 3, and by the
+    divisors at the limits of each type."""
+    for rounding, t in itertools.product(range(3), (INT16, UINT16, INT32, UINT32)):
+        divisors = [b for b in (2, 3, GREATEST[t] - 1, GREATEST[t], LEAST[t], LEAST[t] + 1) if b != 0]
+        pairs = [(sign * a, b) for b in divisors for at in (abs(b) // 2, abs(b)) for a in (at - 1, at, at + 1)
+                 for sign in (1, -1)]
+        words = [(a % 2**32, b % 2**32) for a, b in pairs if LEAST[t] <= a <= GREATEST[t]]
+        vectors.sequence(arithmetic(DIV, t, t, INT16, rounding), [(RUN, 10, w) for w in words])
+
+
 def directed_decouple(vectors):
     bits = lambda v: [v >> p & 1 for p in range(8)]
     vectors.sequence(decouple(), [(RUN, 10, bits(1 << p)) for p in range(8)])
@@ -400,9 +429,16 @@ TWOHAND_STEPS = {1: [1, 2, 4, 13], 2: [2, 3, 13], 3: [2, 3, 4, 11, 12], 4: [2, 4
 
 
 def wanted():
-    """What has to come up: every phase, step and diagnosis of every kind, and of the states of DECOUPLE, TWOHAND, ADD
-    and DIV each code that the kind has well formed and not, and each that it has not refused. A pair that is full does
-    not differ, so bit 6 of TWOHAND comes with at most one of bits 0 and 1."""
+    """What has to come up: every phase, step and diagnosis of every kind; of DIV in each rounding a half and the
+    remainders next to it by divisors of each type, of the signed ones in both signs, and a remainder whose double takes
+    more than 32 bits; and of the states of DECOUPLE, TWOHAND, ADD and DIV each code that the kind has well formed and
+    not, and each that it has not refused. A pair that is full does not differ, so bit 6 of TWOHAND comes with at most
+    one of bits 0 and 1."""
+    for rounding, t in itertools.product(range(3), (INT16, UINT16, INT32, UINT32)):
+        for sign, fraction in itertools.product(('0 or above', 'below 0'), ('just below', 'half', 'just above')):
+            if sign == '0 or above' or t in (INT16, INT32):
+                yield (DIV, 'quotient', rounding, t, sign, fraction)
+    yield from ((DIV, 'remainder of 2^31 or more', rounding) for rounding in range(3))
     for kind in range(DECOUPLE, DIV + 1):
         steps = DECOUPLE_STEPS if kind == DECOUPLE else TWOHAND_STEPS if kind == TWOHAND else ARITHMETIC_STEPS
         diagnoses = [] if kind == DECOUPLE else [*range(1, 8), 64, 65, 66, 68, 69, 70] if kind == TWOHAND else [1, 2]
@@ -419,6 +455,7 @@ def main():
     vectors = Vectors(Reference(batch))
     directed_twohand(vectors)
     directed_arithmetic(vectors)
+    directed_quotients(vectors)
     directed_decouple(vectors)
     random_sequences(vectors, random.Random(20))
     damaged_states(vectors, random.Random(21))

@@ -3,16 +3,19 @@
 
     python3 tests/number_vectors.py
 
-writes crates/number_vectors/stdin and crates/number_vectors/stdout, always the same. `rt check` then runs the program on the one and
-compares what it prints with the other.
+writes crates/number_vectors/stdin and crates/number_vectors/stdout, always the same. `rt check` then runs the program
+on the one and compares what it prints with the other.
 
-This is a second source for ADD, SUB, MUL and DIV: it is written from the words of document 01, "Arithmetic.", with Python's exact
-integers and fractions, and not from the Rattle code. The records are those that crates/number_vectors/src/main.rt describes.
+This is a second source for ADD, SUB, MUL and DIV: it is written from the words of document 01, "Arithmetic.", with
+Python's exact integers and fractions, and not from the Rattle code. The records are those that
+crates/number_vectors/src/main.rt describes.
 
-Of each of the 64 mixes of types and the six operations it takes: results exactly at each limit of the output and one beyond it, where
-two inputs of those types give them; the corners of the two input types; numbers around 0 of either sign, which for DIV are halves; and
-for DIV a divisor of 0, and quotients just below, at and just above a half by the greatest divisors. The examples P1 to P9 of document
-01 stand first, and are compared with what the document says of them. A record that is broken off stands last, and has no line.
+Of each of the 64 mixes of types and the six operations it takes: results exactly at each limit of the output and one
+beyond it, where two inputs of those types give them; the corners of the two input types; numbers around 0 of either
+sign, which for DIV are halves; and for DIV a divisor of 0, and, where the types hold them, quotients of either sign
+just below, at and just above a half and just below 1, by the greatest divisor, the one before it, and the least, or 2
+where that is 0. The examples P1 to P9 of document 01 stand first, and are compared with what the document says of them.
+A record that is broken off stands last, and has no line.
 """
 import math
 import pathlib
@@ -97,9 +100,10 @@ def pairs(op, ta, tb, t):
         found += reaching(op, ta, tb, z)
     found += product([LEAST[ta], GREATEST[ta]], [LEAST[tb], GREATEST[tb]])
     if op in (FLOOR, CEIL, ROUND):
-        half = GREATEST[tb] // 2
         found += [(5, 2), (-5, 2), (5, -2), (-5, -2), (-1, 2), (GREATEST[ta], 0)]
-        found += [(half, GREATEST[tb]), (half + 1, GREATEST[tb]), (half, GREATEST[tb] - 1)]
+        for b in [GREATEST[tb], GREATEST[tb] - 1, LEAST[tb] or 2]:
+            half = abs(b) // 2
+            found += [(sign * a, b) for a in [half - 1, half, half + 1, abs(b) - 1] for sign in [1, -1]]
     else:
         found += [(1, 1), (-1, 1), (1, -1), (-1, -1), (0, 0)]
     return [p for p in dict.fromkeys(found) if holds(ta, p[0]) and holds(tb, p[1])]

@@ -178,8 +178,8 @@ zero-by Floor true j = rw (zero-div (suc j))
 zero-by Floor false j = rw (zero-div (suc j))
 zero-by Ceil true j = rw (zero-div (suc j))
 zero-by Ceil false j = rw (zero-div (suc j), zero-mod (suc j))
-zero-by Round true j = rw (zero-div (suc j), zero-mod (suc j), lt-leb (suc j) 0 (omega arith))
-zero-by Round false j = rw (zero-div (suc j), zero-mod (suc j), lt-leb (suc j) 0 (omega arith))
+zero-by Round true j = rw (zero-div (suc j), zero-mod (suc j), lt-leb (suc j - 0) 0 (omega arith))
+zero-by Round false j = rw (zero-div (suc j), zero-mod (suc j), lt-leb (suc j - 0) 0 (omega arith))
 
 pub sgn-div : (r : Rounding) (s t : Bool) (m d : ℕ) → 0 < d →
     roundedDiv r (differ s t) m d ≡ quotient r (sgn s m) (sgn t d)

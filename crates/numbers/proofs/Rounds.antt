@@ -1,8 +1,8 @@
 -- What the paper says of the three roundings, of the definition `quotient`: the sign of the divisor can be moved to the
 -- dividend, so that the rest speaks of divisors above 0; floor is the library's division toward 0; ceil is the least
 -- whole number that is not below the quotient; round is a nearest whole number, and of two that are equally near the
--- one further from 0. By cases on the signs; what is left is on magnitudes, m = m / d * d + m % d with m % d < d.
--- Assumes nothing.
+-- one further from 0, and it is what a doubled remainder gives. By cases on the signs; what is left is on magnitudes,
+-- m = m / d * d + m % d with m % d < d. Assumes nothing.
 use mathlib.Core.Path.{_≡_, refl, sym, ap, _∙_, subst}
 use mathlib.Core.Bool.{Bool, true, false, not, cond}
 use Prim.Native.Nat.{ℕ, zero, suc, _+_, _-_, _*_, _/_, _%_, _≤_, _<_}
@@ -18,7 +18,7 @@ use lib.Signed.{_≤ℤ_, quotZ}
 use Rattle.numbers.proofs.Laws.{sgn-div, by-zero, neg-le, neg-le-pos, neg-mul, pos-neg, neg-pos, neg-neg}
 use Rattle.numbers.proofs.Laws.{sub-le, sub-lt, abs-sgn}
 use Rattle.numbers.specs.Types.{sgn}
-use Rattle.numbers.specs.Results.{roundedDiv, quotient}
+use Rattle.numbers.specs.Results.{away, roundedDiv, quotient}
 use Rattle.numbers.specs.declared.Rounding.{Rounding}
 use Rattle.numbers.specs.declared.Rounding.the-variants.{Floor, Ceil, Round}
 
@@ -119,7 +119,7 @@ ceil-least (negsuc m) (negsuc k) (suc d) h t =
 -- ---- round goes to the nearest whole number, half away from 0
 
 abbrev near : ℕ → ℕ → ℕ
-near m d = m / d + cond (leb d (2 * (m % d))) 1 0
+near m d = m / d + cond (away Round false (m % d) d) 1 0
 
 -- the sign is the dividend's
 round-is : (s : Bool) (m d : ℕ) → 0 < d → quotient Round (sgn s m) (pos d) ≡ sgn s (near m d)
@@ -129,14 +129,14 @@ round-is true m d h = sym (sgn-div Round true false m d h)
 
 -- without signs, near - 1/2 ≤ m / d < near + 1/2
 near-half : (m d : ℕ) → 0 < d → (2 * (near m d * d) ≤ 2 * m + d) × (2 * m < 2 * (near m d * d) + d)
-near-half m d h = pick (decLe d (2 * (m % d)))
+near-half m d h = pick (decLe (d - m % d) (m % d))
   where
-    pick : Dec (d ≤ 2 * (m % d)) → (2 * (near m d * d) ≤ 2 * m + d) × (2 * m < 2 * (near m d * d) + d)
-    pick (yes p) = rw (le-leb d (2 * (m % d)) p, add-mul (m / d) 1 d, one-mul d)
+    pick : Dec (d - m % d ≤ m % d) → (2 * (near m d * d) ≤ 2 * m + d) × (2 * m < 2 * (near m d * d) + d)
+    pick (yes p) = rw (le-leb (d - m % d) (m % d) p, add-mul (m / d) 1 d, one-mul d)
         (omega (arith, div-add-mod' m d, mod-lt m h))
     pick (no n) =
         let q = lt-of-not-le n in
-        rw (lt-leb d (2 * (m % d)) q, add-zero (m / d)) (omega (arith, div-add-mod' m d))
+        rw (lt-leb (d - m % d) (m % d) q, add-zero (m / d)) (omega (arith, div-add-mod' m d))
 
 -- how far two magnitudes are apart
 abbrev apart : ℕ → ℕ → ℕ
@@ -206,3 +206,21 @@ pub round-half : (x : ℤ) (d : ℕ) → 0 < d →
     2 * natAbs (x -ℤ quotient Round x (pos d) *ℤ pos d) ≡ d → natAbs x < natAbs (quotient Round x (pos d)) * d
 round-half (pos m) d h e = half false m d h e
 round-half (negsuc m) d h e = half true (suc m) d h e
+
+-- ---- and it is what a doubled remainder gives
+
+-- Twice the remainder is at least the divisor exactly if the remainder is at least what is left to the divisor.
+doubled : (remainder divisor : ℕ) → leb (divisor - remainder) remainder ≡ leb divisor (2 * remainder)
+doubled r d = pick (decLe d (2 * r))
+  where
+    pick : Dec (d ≤ 2 * r) → leb (d - r) r ≡ leb d (2 * r)
+    pick (yes p) = le-leb (d - r) r (omega arith) ∙ sym (le-leb d (2 * r) p)
+    pick (no n) = let q = lt-of-not-le n in lt-leb (d - r) r (omega arith) ∙ sym (lt-leb d (2 * r) q)
+
+-- 02, W5, "no answer changes": of every dividend and divisor, here without their signs, the rounded quotient is the one
+-- by a doubled remainder. Of the three roundings this one alone asks for a half.
+pub no-answer-changes : (neg : Bool) (dividend divisor : ℕ) →
+    roundedDiv Round neg dividend divisor ≡
+    sgn neg (dividend / divisor + cond (leb divisor (2 * (dividend % divisor))) 1 0)
+unfolding roundedDiv
+no-answer-changes neg m d = rw (doubled (m % d) d)

@@ -1,8 +1,8 @@
 -- What ADD, SUB, MUL and DIV give: the exact result of the two inputs in ℤ, then whether the output type holds it,
 -- and the numbers that a finding shows of it. Sum, difference and product are the library's (`lib.IntN`), `ltZ` its
--- order (`lib.Signed`), `/` and `%` of naturals cut. 001, 4.16 to 4.19, and where it is silent 01, "Arithmetic.".
--- Assumes nothing.
-use Prim.Native.Nat.{ℕ, _+_, _*_, _/_, _%_}
+-- order (`lib.Signed`); of naturals, `/` and `%` cut, and `-` stops at 0, which the divisor less its remainder does not
+-- reach. 001, 4.16 to 4.19, and where it is silent 01, "Arithmetic.". Assumes nothing.
+use Prim.Native.Nat.{ℕ, _+_, _-_, _/_, _%_}
 use mathlib.Core.Bool.{Bool, true, false, cond, not, _&&_}
 use lib.Dec.{ltb, leb, eqb}
 use lib.IntN.{ℤ, pos, natAbs, _+ℤ_, _-ℤ_, _*ℤ_}
@@ -18,24 +18,26 @@ use Rattle.numbers.specs.declared.Outcome.the-variants.{Below, Above, Va
 
 -- ---- the quotient
 
--- Two signs that differ: the sign of a product and of a quotient. General.
+-- Whether two signs differ: a product or a quotient that is not 0 is then below 0. General.
 abbrev pub differ : Bool → Bool → Bool
 differ true b = not b
 differ false b = b
 
--- Whether the rounded quotient is one further from 0 than the quotient with its fraction cut off. neg: the quotient is
--- below 0; left: the remainder; d: the divisor; both without their signs. 01, "Arithmetic.": floor cuts the fraction
+-- Whether the rounded quotient is one further from 0 than the quotient with its fraction cut off. neg: dividend and
+-- divisor have different signs; remainder and divisor are without theirs. 01, "Arithmetic.": floor cuts the fraction
 -- off; ceil takes the smallest whole number not below the quotient, so only a quotient above 0 moves; round goes half
--- away from zero. 001, 4.19.1, has the three by name: "Nachkommastellen werden abgeschnitten", "die nächstgrößere
--- Ganzzahl", "kaufmännisch gerundet (d.h. 2,5 wird zu 3 gerundet)".
+-- away from zero: the remainder is at least what is left to the divisor (02, W5). 001, 4.19.1, has the three by name:
+-- "Nachkommastellen werden abgeschnitten", "die nächstgrößere Ganzzahl", "kaufmännisch gerundet (d.h. 2,5 wird zu 3
+-- gerundet)".
 abbrev pub away : Rounding → Bool → ℕ → ℕ → Bool
-away Floor neg left d = false
-away Ceil neg left d = not neg && ltb 0 left
-away Round neg left d = leb d (2 * left)
+away Floor neg remainder divisor = false
+away Ceil neg remainder divisor = not neg && ltb 0 remainder
+away Round neg remainder divisor = leb (divisor - remainder) remainder
 
--- The rounded quotient of two magnitudes, with the sign of the quotient. 01, "Arithmetic.".
+-- The rounded quotient of a dividend and a divisor without their signs; neg: they have different ones. 01,
+-- "Arithmetic.".
 unfoldable pub roundedDiv : Rounding → Bool → ℕ → ℕ → ℤ
-roundedDiv r neg m d = sgn neg (m / d + cond (away r neg (m % d) d) 1 0)
+roundedDiv r neg dividend divisor = sgn neg (dividend / divisor + cond (away r neg (dividend % divisor) divisor) 1 0)
 
 -- a by b, rounded, and 0 where b is 0. 001, 4.19.1: "Ist der Eingang AnalogIn2 = 0 wird der Ausgang AnalogOut auf 0
 -- gesetzt. In diesem Fall wird kein Fehler ausgegeben."; 01, "Arithmetic.".

@@ -81,7 +81,7 @@ fn is_signed(t: NumType) -> bool
     }
 }
 
-// Whether two signs differ: the sign of a product and of a quotient.
+// Whether two signs differ: a product or a quotient that is not 0 is then below 0.
 fn opposed(a: bool, b: bool) -> bool
     ensures { λ r. ⌜ r ≡ differ a b ⌝ }
 {
@@ -181,20 +181,20 @@ fn times(a: Signed, b: Signed) -> Signed
 }
 
 // Whether the rounded quotient is one further from 0 than the one with its fraction cut off.
-fn goes_away(r: Rounding, neg: bool, left: u64, d: u64) -> bool
-    requires { ⌜ (left < d) × (d < 2 ^ 32) ⌝ }
-    ensures { λ b. ⌜ b ≡ away r neg left d ⌝ }
+fn goes_away(r: Rounding, neg: bool, remainder: u64, divisor: u64) -> bool
+    requires { ⌜ remainder < divisor ⌝ }
+    ensures { λ b. ⌜ b ≡ away r neg remainder divisor ⌝ }
 {
     match r {
         Rounding::Floor => false,
-        Rounding::Ceil => { if neg { false } else { 0 < left } }
-        Rounding::Round => d <= 2 * left,
+        Rounding::Ceil => { if neg { false } else { 0 < remainder } }
+        Rounding::Round => divisor - remainder <= remainder,
     }
 }
 
 // a by b, rounded; 0 where b is 0.
 fn divide(r: Rounding, a: Signed, b: Signed) -> Signed
-    requires { ⌜ (a .mag < 2 ^ 32) × (b .mag < 2 ^ 32) ⌝ }
+    requires { ⌜ a .mag < 2 ^ 32 ⌝ }
     ensures { λ q. ⌜ zOf q ≡ quotientOf r (zOf a) (zOf b) ⌝ }
 {
     let d = b.mag;

@@ -21,8 +21,10 @@ impl Machine {
         }
         self.turn_analogs(random, case, state);
         for block in 0..case.blocks() {
-            if case.kind(block) == TWOHAND {
-                self.move_hands(random, case, state, block);
+            match case.kind(block) {
+                TWOHAND => self.move_hands(random, case, state, block),
+                DIV => self.turn_quotient(random, case, state, block),
+                _ => {}
             }
         }
         for input in &self.inputs {
@@ -75,6 +77,30 @@ impl Machine {
                 let raw = wanted ^ case.parameter(block, 1);
                 self.inputs[usize::from(input)] = i64::from(raw >> port & 1);
             }
+        }
+    }
+
+    /// Often gives a DIV that is not in ERROR and has two external inputs a remainder at half the divisor, next to that
+    /// or next to the divisor; the divisor is often at a limit of its type.
+    fn turn_quotient(&mut self, random: &mut Random, case: &Case, state: &[u8], block: usize) {
+        let [[kind, dividend, _], [other_kind, divisor, _]] = [0, 1].map(|port| case.link(block, port));
+        if kind != 1 || other_kind != 1 || case.block_state(state, block)[0] == 4 || random.one_in(2) {
+            return;
+        }
+        let [(least, greatest), (least_by, greatest_by)] = [0, 1].map(|port| range(case.type_in(block, port)));
+        let some = value(random, case.type_in(block, 1));
+        // Only even divisors have halves.
+        let by = random.pick(&[some, some, least_by, greatest_by]) & !random.between(0, 1);
+        let (whole, half) = (by.abs(), by.abs() / 2);
+        let rest = random.pick(&[half - 1, half, half, half + 1, whole - 1]);
+        let (sign, times) = (random.pick(&[1, -1]), random.between(0, 2));
+        let fitting = [sign * (times * whole + rest), sign * rest, rest];
+        match fitting.into_iter().find(|of| (least..=greatest).contains(of)) {
+            Some(of) if whole > 1 => {
+                self.inputs[usize::from(divisor)] = by;
+                self.inputs[usize::from(dividend)] = of;
+            }
+            _ => {}
         }
     }
 }

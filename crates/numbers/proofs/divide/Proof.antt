@@ -13,7 +13,7 @@ returns : tie.Need-returns
 returns c = let x = c .before .args in rw (c .if1 .taken) (by-zero (x .r) (zOf (x .a)) (x .b .neg))
 
 goes-away-requires : tie.Need-goes-away-requires
-goes-away-requires c κs = (mod-lt (c .before .before .args .a .mag) (omega arith), search needs)
+goes-away-requires c κs = mod-lt (c .before .before .args .a .mag) (omega arith)
 
 add-t12 : tie.Need-add-t12
 add-t12 c = let x = c .before .before .before .before .args in omega (arith, div-le-self (x .a .mag) (x .b .mag))

@@ -1,5 +1,5 @@
--- `numbers::goes_away` is the test of the definition, rounding by rounding. Twice the remainder fits, since it is below
--- the divisor. Assumes nothing.
+-- `numbers::goes_away` is the test of the definition, rounding by rounding. The remainder is below the divisor, so the
+-- difference is not below 0. Assumes nothing.
 use borrow.Author.Needs.{needs}
 use Rattle.numbers.proofs.goes_away.Statement.{statement}
 use Rattle.numbers.proofs.goes_away.Tie as tie

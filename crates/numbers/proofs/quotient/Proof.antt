@@ -10,11 +10,7 @@ pub quotient-spec : {M : Type 1} → statement M
 unfolding exact
 quotient-spec = tie.close (tie.spec
     (λ c κs. search needs) (λ c κs. search needs)
-    (λ c κs.
-    let a = c .before .before .args in (
-      small (a .ta) (a .a) (c .before .load .ensures) (search needs),
-      small (a .tb) (a .b) (c .load2 .ensures) (search needs),
-    ))
+    (λ c κs. let a = c .before .before .args in small (a .ta) (a .a) (c .before .load .ensures) (search needs))
     (λ c κs. search needs)
     (λ c.
     let y = c .before .before in
