@@ -5,9 +5,10 @@
  * different buffers may run at the same time.
  *
  * What is promised below is proved, for every content and every length of every buffer (crates/hagglethwait/src/lib.rt
- * has the promises as equations, crates/hagglethwait/specs/Calls.antt the limits by name). It rests on what a caller in
- * C has to see to:
- *   - a pointer is not null, also where its length is 0, and points to as many bytes as its length says;
+ * has the promises as equations, Calls.antt and Ledgers.antt in crates/hagglethwait/specs and Ledger.antt in
+ * crates/year/specs the limits by name). It rests on what a caller in C has to see to:
+ *   - a pointer is not null, also where its length is 0, and points to as many bytes as its length says, or to a whole
+ *     array or number of its type, aligned as C aligns it;
  *   - a buffer that a call writes (not `const`) overlaps no other argument of that call;
  *   - a length is at most PTRDIFF_MAX.
  *
@@ -16,6 +17,10 @@
  *    2 table of contents                    6 execution numbers     10 state, outputs or findings not of the exact size
  *    3 G: device and groups                 7 links                 11 state not well formed
  *    4 I: external inputs                   8 O: external outputs   12 cycle record
+ *
+ * Those of a ledger, the lowest that applies; a ledger may have any length:
+ *   21 ledger under 96 bytes                                        23 a finding's value
+ *   22 table of contents, or a month that is not whole findings     24 over 4,095 findings in a month
  */
 #ifndef HAGGLETHWAIT_H
 #define HAGGLETHWAIT_H
@@ -51,6 +56,18 @@ uint8_t hagglethwait_fresh(const uint8_t *file, size_t file_size, uint8_t *state
 int32_t hagglethwait_cycle(const uint8_t *file, size_t file_size, const uint8_t *record, size_t record_size,
                            uint8_t *state, size_t state_size, uint8_t *outputs, size_t outputs_size, uint8_t *findings,
                            size_t findings_size);
+
+/* The table of a ledger, twice: row 0 with script closings, row 1 without them, of the findings that a person closed
+ * alone. A row has the twelve months of the year, in order.
+ *
+ * Accepted, it answers 0 and stores for each month the count of its findings, 0 to 4,095, that of the dismissed ones,
+ * and the rate, the 64-bit float nearest to dismissed by findings; and for each row its bend, the number of a month, 1
+ * to 11, or 0 where there is none, which is where fewer than two months of the row have findings. The bend is, of the
+ * months with a finding up to and with them and one after them, that where the dismissed share of all later findings
+ * less that of all others is largest, though it be below 0; the earliest of equal ones. A month without findings has no
+ * rate: what is stored is then 0. Turned down, it answers the number, 21 to 24, and changes nothing of the four. */
+uint8_t hagglethwait_ledger(const uint8_t *file, size_t file_size, uint32_t findings[2][12],
+                            uint32_t dismissed[2][12], double rates[2][12], uint8_t bends[2]);
 
 #ifdef __cplusplus
 }

@@ -5,22 +5,30 @@
 //     Y (0x59), a file, a record, a state, outputs, findings: one byte, 0 or the refusal's number; the count of
 //     findings (32-bit, 0 if refused); state, outputs and findings as they are after the call, in the lengths that
 //     they came with
+//     L (0x4C), a ledger: one byte, 0 for accepted or the refusal's number; if 0, two tables, with and without script
+//     closings, each of twelve months and a bend: a month is findings and dismissed ones (32-bit each), one byte, 1
+//     for a rate or 0 for none, and the rate's 64 bits or 0; a bend is one byte, its month or 0 for none
 // A buffer that there is no room for, another letter, or an end in the middle of a request ends the program with a
 // line on standard error; answers already given stand.
 ghost use Rattle.io.specs.Counts.{Counts};
+
+mod ledgers;
+
 use evaluator::Answer;
 use libc::STDERR_FILENO;
 use libc::STDIN_FILENO;
 use libc::STDOUT_FILENO;
 
-// Room for a file, and for each other buffer.
-const FILE_ROOM: usize = 131072;
+// Room for a file, one byte more than any ledger that is accepted, and for each other buffer.
+const FILE_ROOM: usize = 294937;
 
 const ROOM: usize = 8192;
 
 const CHECK: u8 = b'C';
 
 const CYCLE: u8 = b'Y';
+
+const LEDGER: u8 = b'L';
 
 // What can be wrong with a request.
 const NO_FAULT: u8 = 0;
@@ -42,7 +50,7 @@ fn say(fault: u8) -> bool {
     match fault {
         TOO_LONG => io::write_all(STDERR_FILENO, b": a buffer is longer than its room\n"),
         BROKEN_OFF => io::write_all(STDERR_FILENO, b": the input ends in the middle of it\n"),
-        _ => io::write_all(STDERR_FILENO, b": its letter is neither C nor Y\n"),
+        _ => io::write_all(STDERR_FILENO, b": its letter is none of C, L and Y\n"),
     }
 }
 
@@ -125,6 +133,17 @@ fn answer_cycle(
         & io::write_all(STDOUT_FILENO, findings)
 }
 
+// The rest of a request to measure a ledger. Answers whether to go on.
+fn serve_ledger(request: u64, file: &mut [u8]) -> bool {
+    let got = receive(file, NO_FAULT);
+    let fault = got.fault;
+    if fault != NO_FAULT {
+        return complain(request, fault);
+    }
+    let size = got.size;
+    ledgers::answer_ledger(&file[..size])
+}
+
 // The rest of a request to check a file. Answers whether to go on.
 fn serve_check(request: u64, file: &mut [u8]) -> bool {
     let got = receive(file, NO_FAULT);
@@ -205,6 +224,9 @@ fn serve(
     }
     if letter[0] == CHECK {
         return serve_check(request, file);
+    }
+    if letter[0] == LEDGER {
+        return serve_ledger(request, file);
     }
     if letter[0] == CYCLE {
         return serve_cycle(request, file, record, state, outputs, findings);

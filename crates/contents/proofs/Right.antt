@@ -1,8 +1,9 @@
--- What a table of contents says that was found right (`contentsOk`). Assumes nothing.
+-- What a table of contents says that was found right (`contentsOk`), and that one which says so is found right.
+-- Assumes nothing.
 use Rattle.wire.proofs.Usual.{_≡_, subst, true, _&&_, List, ℕ, zero, suc, _+_, _-_, _<_, _≤_, arith, eqb}
-use Rattle.wire.proofs.Usual.{eqb-true, length}
+use Rattle.wire.proofs.Usual.{eqb-true, eq-eqb, length}
 use Rattle.wire.specs.Places.{all}
-use Rattle.wire.proofs.Places.{all-each, both-left, both-right}
+use Rattle.wire.proofs.Places.{all-each, all-true, both-left, both-right}
 use Rattle.contents.specs.Contents.{contentsSize, bodyStart, bodySize, followsOk, contentsOk}
 
 -- the first of n bodies starts where the table ends, each other where the one before ends, and the last ends with the
@@ -24,6 +25,15 @@ right n F h =
       follows = λ e l. eqb-true _ _ (all-each (followsOk F) (n - 1) (both-right a b ab) e l);
       last = eqb-true _ _ (both-right (a && b) c h);
     }
+
+pub right-ok : (n : ℕ) (F : List ℕ) → Right n F → contentsOk n F ≡ true
+unfolding contentsOk followsOk
+right-ok n F r =
+    rw (
+      eq-eqb _ _ (r .first),
+      all-true (followsOk F) (n - 1) (λ e l. eq-eqb _ _ (r .follows e l)),
+      eq-eqb _ _ (r .last),
+    )
 
 -- so each ends within the file: the last does, and one before it where the next starts
 module _ {n : ℕ} {F : List ℕ} (r : Right n F) where

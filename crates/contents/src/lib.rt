@@ -1,7 +1,9 @@
 // A table of contents at the front of a file: for each of n bodies its start and its length (01, "The case file", where
 // n is 5). Every public function is total: a byte past the end reads as 0.
 ghost use mathlib.Core.Path.{_≡_};
-ghost use Prim.Native.Nat.{_-_, _<_};
+ghost use Prim.Native.Nat.{_+_, _-_, _<_, _≤_};
+ghost use lib.ListN.{length};
+ghost use Rattle.wire.specs.Words.{le32};
 ghost use Rattle.wire.specs.Places.{firstBad};
 ghost use Rattle.contents.specs.Contents.{bodyStart, bodySize, followsOk, contentsOk};
 
@@ -20,12 +22,25 @@ pub fn size(file: &[u8], e: u8) -> u32
     wire::read32(file, ENTRY_SIZE * (e as usize) + 4)
 }
 
-// Body e + 1 starts where body e ends.
+// The number in the four bytes from i on, which the file has.
+fn word(file: &[u8], i: usize) -> u32
+    requires { ⌜ i + 4 ≤ length (now file) ⌝ }
+    ensures { λ r. ⌜ r ≡ le32 (now (file .entry)) i ⌝ }
+{
+    wire::word32(file[i], file[i + 1], file[i + 2], file[i + 3])
+}
+
+// Body e + 1 starts where body e ends. Where the file has both entries, one look at its size is enough.
 fn follows(file: &[u8], e: u8) -> bool
     requires { ⌜ e < 255 ⌝ }
     ensures { λ r. ⌜ r ≡ followsOk (now (file .entry)) e ⌝ }
 {
-    (start(file, e + 1) as u64) == (start(file, e) as u64) + (size(file, e) as u64)
+    let at = ENTRY_SIZE * (e as usize);
+    let next = ENTRY_SIZE * (e as usize + 1);
+    if file.len() < next + 4 {
+        return (start(file, e + 1) as u64) == (start(file, e) as u64) + (size(file, e) as u64);
+    }
+    (word(file, next) as u64) == (word(file, at) as u64) + (word(file, at + 4) as u64)
 }
 
 // The first body, of those before the last, that the next does not follow, or the last.

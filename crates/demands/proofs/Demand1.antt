@@ -1,7 +1,8 @@
 -- Demand 1: what a call, a check, the sizes and the fresh state answer is the number of the first rule of their table
 -- that is not kept, exactly then; a call that is turned down leaves what it was lent as it was; one that is not answers
 -- its count, the sizes or the fresh state; the tables' numbers rise. Assumes nothing.
-use Rattle.wire.proofs.Usual.{_≡_, refl, sym, ap, _∙_, true, _≢_, List, [], _∷_, ℕ, zero, suc, _≤_, arith}
+use Rattle.wire.proofs.Usual.{_≡_, refl, sym, ap, _∙_, true, _≢_, List, [], _∷_, ℕ, zero, suc, _≤_}
+use Rattle.wire.proofs.Usual.{arith}
 use Rattle.wire.proofs.Usual.{lt-ltb, ne-eqb}
 use borrow.Author.Tests.{leb-true}
 use lib.Dec.{leb}
@@ -28,7 +29,7 @@ rising-numbered m (r ∷ rs) l e =
     rw (lt-ltb 0 (r .number) (omega arith))
     (rising-numbered (r .number) rs some (both-right (leb m (r .number)) (rising (r .number) rs) e))
 
-by-table : (t : List Row) {n : ℕ} → rising 1 t ≡ true → n ≡ first t → Numbered t n
+pub by-table : (t : List Row) {n : ℕ} → rising 1 t ≡ true → n ≡ first t → Numbered t n
 by-table t {n} up e = record {
   refused = λ k.
       let some = first-some t each (suc k) (λ z. omega (arith, z)) in

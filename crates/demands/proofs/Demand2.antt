@@ -1,17 +1,17 @@
 -- Demand 2: an accepted cycle leaves exactly what the definitions say. The buffers and the count are the call's
 -- definition; each block's step is the fixed point of the cycle (`fixed`); the state that is left is well formed, since
 -- a step keeps a block so and a group's byte becomes 0, 1, 3 or stays. Assumes nothing.
-use Rattle.wire.proofs.Usual.{_≡_, refl, sym, ap, _∙_, Bool, true, false, cond, List, [], _++_, append-nil, ℕ}
+use Rattle.wire.proofs.Usual.{_≡_, refl, sym, ap, _∙_, Bool, true, cond, List, [], _++_, append-nil, ℕ}
 use Rattle.wire.proofs.Usual.{zero, suc, _+_, _-_, _*_, _≤_, _<_, ℕ-discrete, decLt, arith, length, take, drop}
-use Rattle.wire.proofs.Usual.{replicate, length-append, length-replicate}
+use Rattle.wire.proofs.Usual.{replicate, length-replicate}
 use mathlib.Core.List.{append-assoc}
-use native.Mathlib.Nat.{not-suc-le-zero, mul-zero, mul-suc, add-zero}
-use native.Mathlib.Numerals.{add-one}
+use native.Mathlib.Nat.{not-suc-le-zero}
 use lib.ListN.{getD-replicate, List·getD-eq-default}
 use lib.Seq.{take-at, drop-at, getD-append-add}
 use Rattle.wire.specs.Words.{byteAt}
 use Rattle.wire.specs.Records.{slot}
 use Rattle.wire.proofs.Records.{slot-past}
+use Rattle.wire.proofs.Packing.{entries-length}
 use Rattle.project.specs.Project.{inputCount, groupCount, blockCount, groupOf, orderOf}
 use Rattle.casefile.specs.Sound.{Sound}
 use Rattle.casefile.specs.Bodies.{projectOf}
@@ -21,7 +21,7 @@ use Rattle.evaluator.specs.declared.Answer.the-variants.{Findings, Refused}
 use Rattle.evaluator.specs.Net.{words, seen}
 use Rattle.evaluator.specs.State.{cell, stateFormed}
 use Rattle.evaluator.specs.Groups.{phase}
-use Rattle.evaluator.specs.Packed.{entries, hits, packed}
+use Rattle.wire.specs.Packed.{entries, hits, packed}
 use Rattle.evaluator.specs.Cycle.{net, ran, turnedFrom, wires, newBlock, wordsRead, newFindings, enters, findingFor}
 use Rattle.evaluator.specs.Cycle.{finding, findingCount}
 use Rattle.evaluator.specs.Answer.{Lent, Left, refusal, leaves, cycleOf}
@@ -51,16 +51,6 @@ new-only G B R S g new h b l =
 -- ---- the findings in their buffer
 
 module _ (w : ℕ) (hit : ℕ → Bool) (f : ℕ → List ℕ) (long : (b : ℕ) → length (f b) ≡ w) where
-  entries-length : (n : ℕ) → length (entries n hit f) ≡ w * hits n hit
-  unfolding entries hits
-  entries-length zero = sym (mul-zero w)
-  entries-length (suc n) = length-append (entries n hit f) (cond (hit n) (f n) []) ∙ go (entries-length n) (hit n)
-    where
-      go : length (entries n hit f) ≡ w * hits n hit → (t : Bool) →
-          length (entries n hit f) + length (cond t (f n) []) ≡ w * (hits n hit + cond t 1 0)
-      go e true = omega (arith, e, long n, mul-suc w (hits n hit), ap (λ (k : ℕ). w * k) (add-one (hits n hit)))
-      go e false = omega (arith, e, ap (λ (k : ℕ). w * k) (add-zero (hits n hit)))
-
   -- the entries from that of place b on
   record From (n b : ℕ) : Type 0 where
     rest : List ℕ
@@ -95,7 +85,8 @@ module _ (w : ℕ) (hit : ℕ → Bool) (f : ℕ → List ℕ) (long : (b : ℕ)
   packed-at size n b l h =
       slot-past 0 w (hits b hit) (packed size n hit f)
       ∙ ap (λ (t : List ℕ). take w (drop (w * hits b hit) t)) whole
-      ∙ ap (take w) (drop-at (entries b hit f) (f b ++ (c .rest ++ zeros)) (w * hits b hit) (entries-length b))
+      ∙ ap (take w) (drop-at (entries b hit f) (f b ++ (c .rest ++ zeros)) (w * hits b hit)
+      (entries-length w hit f b (λ j _. long j)))
       ∙ take-at (f b) (c .rest ++ zeros) w (long b)
     where
       c : From n b
@@ -115,7 +106,7 @@ module _ (w : ℕ) (hit : ℕ → Bool) (f : ℕ → List ℕ) (long : (b : ℕ)
   packed-past size n i l =
       let m = size - length (entries n hit f) in
       let j = i - length (entries n hit f) in
-      let at : i ≡ length (entries n hit f) + j = omega (arith, entries-length n) in
+      let at : i ≡ length (entries n hit f) + j = omega (arith, entries-length w hit f n (λ b _. long b)) in
       ap (byteAt (packed size n hit f)) at ∙ getD-append-add (entries n hit f) (replicate m 0) j 0 ∙ zero-at m j
     where
       zero-at : (m j : ℕ) → byteAt (replicate m 0) j ≡ 0

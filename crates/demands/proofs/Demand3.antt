@@ -9,7 +9,8 @@ use Rattle.wire.specs.Places.{all}
 use Rattle.wire.specs.Tables.{row, first}
 use Rattle.wire.proofs.Places.{all-same}
 use Rattle.wire.proofs.Records.{gather-same}
-use Rattle.project.specs.Project.{Project, groupCount, blockCount, groupOf, orderOf, linkOf, outputCount, outputBlock}
+use Rattle.project.specs.Project.{Project, groupCount, blockCount, groupOf, orderOf, linkOf, outputCount}
+use Rattle.project.specs.Project.{outputBlock}
 use Rattle.project.specs.Project.{outputPort, device}
 use Rattle.casefile.specs.Sound.{Sound, Shown}
 use Rattle.project.specs.Alike.{Alike}
@@ -26,14 +27,14 @@ use Rattle.evaluator.specs.declared.Answer.the-variants.{Findings}
 use Rattle.evaluator.specs.Net.{reads, seen}
 use Rattle.evaluator.specs.State.{cell, stateLength, findingsLength, headFormed, cellFormed, stateFormed}
 use Rattle.evaluator.specs.Groups.{erredIn, hasError, groupFrom, newGroup, phaseOf, phase}
-use Rattle.evaluator.specs.Packed.{hits, packed}
+use Rattle.wire.specs.Packed.{hits, packed}
 use Rattle.evaluator.specs.Cycle.{wires, turnedFrom, net, ran, newBlock, wordsRead, newHead, newState, outputWord}
 use Rattle.evaluator.specs.Cycle.{newOutputs, enters, findingFor, finding, findingCount, newFindings}
 use Rattle.evaluator.specs.Answer.{Lent, Left, sizesOk, recordOk, callRows, refusal, leaves, cycleOf}
 use Rattle.evaluator.specs.Runs.{run}
 use Rattle.casefile.proofs.Accepted.{accepted}
 use Rattle.evaluator.proofs.Agree.{Same, agree, reads-same, ltb-iff}
-use Rattle.evaluator.proofs.Packing.{packed-same, hits-same}
+use Rattle.wire.proofs.Packing.{packed-same, hits-same}
 use Rattle.evaluator.proofs.Checking.{Taken, taken}
 use Rattle.evaluator.proofs.Calls.{refused-rows}
 use Rattle.demands.specs.Demands.{Demand3}

@@ -31,7 +31,7 @@ use Rattle.evaluator.specs.Net.{after}
 use Rattle.evaluator.specs.State.{cell, stateLength, outputsLength, findingsLength, cellFormed, stateFormed}
 use Rattle.evaluator.specs.Groups.{inputWord, erredIn, hasError, groupNext, phaseFrom, groupFrom, phaseOf, newGroup}
 use Rattle.evaluator.specs.Groups.{phase}
-use Rattle.evaluator.specs.Packed.{entries, hits, packed}
+use Rattle.wire.specs.Packed.{entries, hits, packed}
 use Rattle.evaluator.specs.Cycle.{wires, turnedFrom, net, ran, newBlock, wordsRead, newHead, newState, outputWord}
 use Rattle.evaluator.specs.Cycle.{newOutputs, findingFor, enters, finding, findingCount, newFindings}
 use Rattle.evaluator.specs.Answer.{Lent, Left, lends, leaves, controlOk, inputFits, recordOk, sizesOk, callRows}

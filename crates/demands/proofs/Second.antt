@@ -22,9 +22,13 @@ use Rattle.evaluator.specs.Answer.{Lent, lends}
 use Rattle.evaluator.specs.Fresh.{sizesOf}
 use Rattle.evaluator.specs.Asks.{orderList, errorList}
 use Rattle.report.specs.Lines.{findingLine, endLine, refusedLine}
+use Rattle.report.specs.LedgerLines.{rateLine, noRateLine, bendLine}
+use Rattle.year.specs.Months.{shareOf}
+use Rattle.year.specs.Year.{yearOf}
 use Rattle.tracer.specs.Traced.{endOf}
 use Rattle.hagglethwait.specs.Calls.{answerNumber}
 use Rattle.demands.specs.Words.{Gives, TurnWords, LineWords, CycleWords, FreshWords, StepWords, SizesWords}
+use Rattle.demands.specs.Words.{Columns, columns, LedgerWords}
 use Rattle.demands.specs.Words.{OneAnswer, of1, of2, of3, of4, of5, of6, of9}
 
 -- ---- two that meet the same words
@@ -73,6 +77,18 @@ sizes-same p q = λ i. record {
   state = second-answer (p .stated) (q .stated) i;
   outputs = second-answer (p .shown) (q .shown) i;
   findings = second-answer (p .told) (q .told) i;
+}
+
+ledger-same : {F : List ℕ} {L : Columns} {x y : record { answer : ℕ; lent : Columns }} →
+    LedgerWords F L x → LedgerWords F L y → x ≡ y
+ledger-same p q = λ i. record {
+  answer = second-answer (p .answered) (q .answered) i;
+  lent = record {
+    findings = second-answer (p .found) (q .found) i;
+    dismissed = second-answer (p .gone) (q .gone) i;
+    rates = second-answer (p .rated) (q .rated) i;
+    bends = second-answer (p .bent) (q .bent) i;
+  };
 }
 
 -- ---- two that meet the same contract
@@ -231,11 +247,28 @@ pub report-one :
     × OneAnswer Rattle.report.proofs.refused_line.Reads.Post
     (of2 (λ out number. LineWords (refusedLine number) (now out)))
     (of2 (λ out number r. record { answer = r; bytes = now out }))
+    × OneAnswer Rattle.report.proofs.rate_line.Reads.Post
+    (of5 (λ out month findings dismissed bits. LineWords (rateLine month findings dismissed bits) (now out)))
+    (of5 (λ out month findings dismissed bits r. record { answer = r; bytes = now out }))
+    × OneAnswer Rattle.report.proofs.no_rate_line.Reads.Post
+    (of4 (λ out month findings dismissed. LineWords (noRateLine month findings dismissed) (now out)))
+    (of4 (λ out month findings dismissed r. record { answer = r; bytes = now out }))
+    × OneAnswer Rattle.report.proofs.bend_line.Reads.Post
+    (of2 (λ out month. LineWords (bendLine month) (now out)))
+    (of2 (λ out month r. record { answer = r; bytes = now out }))
 report-one = (
   one (λ κs a x y. line-same) (λ κs a r s p. p),
   one (λ κs a x y. line-same) (λ κs a r s p. p),
   one (λ κs a x y. line-same) (λ κs a r s p. p),
+  one (λ κs a x y. line-same) (λ κs a r s p. p),
+  one (λ κs a x y. line-same) (λ κs a r s p. p),
+  one (λ κs a x y. line-same) (λ κs a r s p. p),
 )
+
+pub year-one :
+    OneAnswer Rattle.year.proofs.share_of.Reads.Post (of1 (λ l. Gives (shareOf l))) (λ κs s r. r)
+    × OneAnswer Rattle.year.proofs.year_of.Reads.Post (of1 (λ file. Gives (yearOf (now file)))) (λ κs s r. r)
+year-one = (gives, gives)
 
 pub tracer-one :
     OneAnswer Rattle.tracer.proofs.trace.Reads.Post (of1 (λ file. Gives (endOf (now file)))) (λ κs s r. r)
@@ -255,10 +288,18 @@ pub hagglethwait-one :
     CycleWords answerNumber (now file) (now rec) (lends (now state) (now outputs) (now findings))))
     (of5 (λ file rec state outputs findings r.
     record { answer = r; lent = lends (now state) (now outputs) (now findings) }))
+    × OneAnswer Rattle.hagglethwait.proofs.hagglethwait_ledger.Reads.Post
+    (of5 (λ file findings dismissed rates bends.
+    LedgerWords (now file) (columns (now findings) (now dismissed) (now rates) (now bends))))
+    (of5 (λ file findings dismissed rates bends r.
+    record { answer = r; lent = columns (now findings) (now dismissed) (now rates) (now bends) }))
 hagglethwait-one = (
   one (λ κs a x y. sizes-same)
       (λ κs a r s p. record { answered = p .0; stated = p .1 .0; shown = p .1 .1 .0; told = p .1 .1 .1 }),
   one (λ κs a x y. fresh-same) (λ κs a r s p. record { answered = p .0; left = p .1 }),
   one (λ κs a x y. cycle-same)
       (λ κs a r s p. record { answered = p .0; left = p .1 .0; shown = p .1 .1 .0; told = p .1 .1 .1 }),
+  one (λ κs a x y. ledger-same)
+      (λ κs a r s p. record
+      { answered = p .0; found = p .1 .0; gone = p .1 .1 .0; rated = p .1 .1 .1 .0; bent = p .1 .1 .1 .1 }),
 )

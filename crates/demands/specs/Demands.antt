@@ -30,7 +30,7 @@ use Rattle.evaluator.specs.declared.Sizes.the-variants.{Bytes}
 use Rattle.evaluator.specs.Net.{words, seen}
 use Rattle.evaluator.specs.State.{cell, stateLength, outputsLength, findingsLength, stateFormed}
 use Rattle.evaluator.specs.Groups.{phase}
-use Rattle.evaluator.specs.Packed.{hits}
+use Rattle.wire.specs.Packed.{hits}
 use Rattle.evaluator.specs.Cycle.{wires, firstOf, secondOf, turnedFrom, newBlock, wordsRead, newState, newOutputs}
 use Rattle.evaluator.specs.Cycle.{newFindings, enters, findingCount}
 use Rattle.evaluator.specs.Answer.{Lent, Left, callTable, cycleOf, numberIn}

@@ -1,4 +1,6 @@
 pub mod Demands
+pub mod Ledgers
+pub mod LedgerExample
 pub mod Listing
 pub mod Examples
 pub mod Words

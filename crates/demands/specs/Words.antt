@@ -5,6 +5,7 @@ use Prim.Native.Nat.{ℕ}
 use mathlib.Core.Path.{_≡_}
 use mathlib.Core.Bool.{Bool}
 use mathlib.Core.List.{List}
+use lib.Ieee.{Float}
 use lib.Seq.{sets}
 use Rattle.block.specs.State.{entersFrom}
 use Rattle.report.specs.Lines.{Printed}
@@ -13,6 +14,9 @@ use Rattle.evaluator.specs.Answer.{Lent, cycleOf}
 use Rattle.evaluator.specs.Fresh.{sizesOf, sizesNumber, freshNumber, freshLeft}
 use Rattle.evaluator.specs.Steps.{stepAnswer, stepState, stepFindings}
 use Rattle.hagglethwait.specs.Calls.{stateSaid, outputsSaid, findingsSaid}
+use Rattle.hagglethwait.specs.Ledgers.{findingsLeft, dismissedLeft, ratesLeft, bendsLeft}
+use Rattle.year.specs.Ledger.{ledgerNumber}
+use Rattle.year.specs.Year.{yearOf}
 
 -- ---- the words, by the names of the contracts' clauses; x is what comes out
 
@@ -56,6 +60,23 @@ pub record SizesWords (F : List ℕ) (s o d : ℕ)
   pub stated : x .state ≡ stateSaid (sizesOf F) s
   pub shown : x .outputs ≡ outputsSaid (sizesOf F) o
   pub told : x .findings ≡ findingsSaid (sizesOf F) d
+
+-- 02, W4: `hagglethwait_ledger`, which is lent what L holds
+pub record Columns : Type 0 where
+  pub findings : List ℕ
+  pub dismissed : List ℕ
+  pub rates : List Float
+  pub bends : List ℕ
+
+abbrev pub columns : List ℕ → List ℕ → List Float → List ℕ → Columns
+columns f d r b = record { findings = f; dismissed = d; rates = r; bends = b }
+
+pub record LedgerWords (F : List ℕ) (L : Columns) (x : record { answer : ℕ; lent : Columns }) : Type 0 where
+  pub answered : x .answer ≡ ledgerNumber F
+  pub found : x .lent .findings ≡ findingsLeft (yearOf F) (L .findings)
+  pub gone : x .lent .dismissed ≡ dismissedLeft (yearOf F) (L .dismissed)
+  pub rated : x .lent .rates ≡ ratesLeft (yearOf F) (L .rates)
+  pub bent : x .lent .bends ≡ bendsLeft (yearOf F) (L .bends)
 
 -- ---- one answer
 

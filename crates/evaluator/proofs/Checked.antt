@@ -20,14 +20,15 @@ use Rattle.block.specs.Finding.{findingSize}
 use Rattle.block.specs.State.{stateSize}
 use Rattle.block.specs.Formed.{wellFormed}
 use Rattle.evaluator.specs.Asks.{Standing, Due, Ranked, Running, orderList, errorList, groupWith, Grouped}
-use Rattle.evaluator.specs.Asks.{Admitted, Begun, Decided, Noted, Ordered, Ready, Showing, entersWith, isNoted}
+use Rattle.evaluator.specs.Asks.{Admitted, Begun, Decided, Noted, Ordered, Ready, Showing, entersWith}
+use Rattle.evaluator.specs.Asks.{isNoted}
 use Rattle.evaluator.specs.Asks.{noteIn, outputShown, ranWith, slotWith}
 use Rattle.evaluator.specs.State.{cell, cellFormed, findingsLength, groupByte, groupFormed, headFormed}
 use Rattle.evaluator.specs.State.{isAcknowledged, isHeld, outputsLength, stateFormed, stateHead, stateLength}
 use Rattle.evaluator.specs.Groups.{controlByte, groupFrom, groupNext, hasError, newGroup, pends}
 use Rattle.evaluator.specs.Cycle.{findingCount, newBlock, newFindings, newHead, newOutputs, newState}
 use Rattle.evaluator.specs.Cycle.{outputWord, portShows}
-use Rattle.evaluator.specs.Packed.{hits, packed}
+use Rattle.wire.specs.Packed.{hits, packed}
 use Rattle.evaluator.proofs.Cycles.{block-formed, block-length, count-new, count-none, decidedState}
 use Rattle.evaluator.proofs.Cycles.{findings-new, findings-none, group-is, head-long, state-new, all-noted}
 use Rattle.evaluator.proofs.Ranking.{order-ranked}

@@ -1,6 +1,7 @@
 -- One cycle of an accepted project as the code runs it, and as the definitions say it: the groups decide first, then
 -- the blocks run in a state whose group bytes are new already, in the phases that a list has. Assumes nothing.
-use Rattle.wire.proofs.Usual.{_≡_, refl, sym, ap, ap₂, _∙_, Bool, true, false, cond, List, _++_, ℕ, zero, suc}
+use Rattle.wire.proofs.Usual.{_≡_, refl, sym, ap, ap₂, _∙_, Bool, true, false, cond, List, _++_, ℕ, zero}
+use Rattle.wire.proofs.Usual.{suc}
 use Rattle.wire.proofs.Usual.{_*_, _<_, zero-add, arith, ltb, length, take, drop, replicate}
 use native.Mathlib.Nat.{add-comm, mul-zero, mul-suc}
 use lib.ListN.{replicate-append-replicate}
@@ -20,7 +21,7 @@ use Rattle.block.proofs.Kept.{step-keeps, step-found}
 use Rattle.evaluator.specs.Net.{words, seen}
 use Rattle.evaluator.specs.State.{stateHead, cell, stateLength, headFormed, cellFormed, stateFormed}
 use Rattle.evaluator.specs.Groups.{groupFrom, phaseOf, newGroup, phase}
-use Rattle.evaluator.specs.Packed.{hits, packed}
+use Rattle.wire.specs.Packed.{hits, packed}
 use Rattle.evaluator.specs.Cycle.{wires, net, turnedFrom, ran, newBlock, wordsRead, newHead, newState, enters}
 use Rattle.evaluator.specs.Cycle.{findingFor, finding, findingCount, newFindings}
 use Rattle.evaluator.specs.Asks.{errorList, saysError, groupWith, Decided, ranWith, entersWith, foundWith}
@@ -28,7 +29,7 @@ use Rattle.evaluator.specs.Asks.{slotWith, noteIn, isNoted, Noted}
 use Rattle.evaluator.proofs.Agree.{agree, fixed}
 use Rattle.evaluator.proofs.Stage.{words-local}
 use Rattle.evaluator.proofs.Deciding.{row-length, error-at}
-use Rattle.evaluator.proofs.Packing.{packed-same, hits-same, packed-none, hits-none}
+use Rattle.wire.proofs.Packing.{packed-same, hits-same, packed-none, hits-none}
 use Rattle.evaluator.proofs.Running.{slot-length, turned-length, empty}
 
 -- records of zeros are zeros

@@ -1,37 +1,17 @@
 -- A cycle has at most as many findings as an accepted file may have blocks, and one that has none leaves zeros. Assumes
 -- nothing.
-use Rattle.wire.proofs.Usual.{_≡_, refl, sym, ap, _∙_, Bool, true, false, cond, List, ℕ, zero, suc, _*_}
-use Rattle.wire.proofs.Usual.{_≤_, _<_, ℕ-discrete, arith, replicate}
-use native.Mathlib.Nat.{not-suc-le-zero}
+use Rattle.wire.proofs.Usual.{_≡_, refl, sym, List, ℕ, zero, suc, _*_}
+use Rattle.wire.proofs.Usual.{_≤_, arith, replicate}
 use Rattle.project.specs.Project.{blockCount}
 use Rattle.casefile.specs.Bodies.{projectOf}
 use Rattle.evaluator.specs.declared.Answer.the-variants.{Findings}
-use Rattle.evaluator.specs.Packed.{hits}
+use Rattle.wire.specs.Packed.{hits}
 use Rattle.block.specs.Finding.{findingSize}
 use Rattle.evaluator.specs.State.{findingsLength}
 use Rattle.evaluator.specs.Cycle.{enters, finding, findingCount, newFindings}
 use Rattle.evaluator.specs.Answer.{Lent, refusal, leaves, cycleOf}
-use Rattle.evaluator.proofs.Packing.{packed-none}
+use Rattle.wire.proofs.Packing.{packed-none, hits-most, hits-zero}
 use Rattle.evaluator.proofs.Calls.{call-taken}
-
-one-most : (t : Bool) → cond t 1 0 ≤ 1
-one-most true = omega arith
-one-most false = omega arith
-
-hits-most : (n : ℕ) (hit : ℕ → Bool) → hits n hit ≤ n
-unfolding hits
-hits-most zero hit = omega arith
-hits-most (suc n) hit = omega (arith, hits-most n hit, one-most (hit n))
-
-hits-zero : (n : ℕ) (hit : ℕ → Bool) → hits n hit ≡ 0 → (b : ℕ) → b < n → hit b ≡ false
-unfolding hits
-hits-zero zero hit e b l = absurd (not-suc-le-zero l)
-hits-zero (suc n) hit e b l = go (ℕ-discrete b n) (hit n) refl (λ m. hits-zero n hit (omega (arith, e)) b m)
-  where
-    go : Dec (b ≡ n) → (t : Bool) → hit n ≡ t → (b < n → hit b ≡ false) → hit b ≡ false
-    go (yes q) false h w = ap hit q ∙ h
-    go (yes q) true h w = let one : _≡_ {A = ℕ} (cond (hit n) 1 0) 1 = rw h in absurd (omega (arith, e, one))
-    go (no q) t h w = w (omega (arith, q))
 
 module _ (F R : List ℕ) (L : Lent) where
   few-left : (n k : ℕ) → refusal F R L ≡ n → Findings k ≡ leaves n (projectOf F) R L .answer → k ≤ 64

@@ -1,7 +1,6 @@
 pub mod Agree
 pub mod Stage
 pub mod Buffers
-pub mod Packing
 pub mod Reading
 pub mod Turning
 pub mod Running

@@ -1,11 +1,12 @@
 -- A cycle call over an accepted file, from buffers of their sizes and a well-formed state: it answers and leaves what a
 -- step does, and what it leaves may be lent to the next call. Assumes nothing.
-use Rattle.wire.proofs.Usual.{_≡_, refl, sym, _∙_, subst, Bool, true, false, cond, List, [], _++_, ℕ, zero, suc}
-use Rattle.wire.proofs.Usual.{_-_, _*_, _≤_, arith, eq-eqb, length, replicate, length-append, length-replicate}
-use native.Mathlib.Nat.{mul-suc}
+use Rattle.wire.proofs.Usual.{_≡_, refl, sym, _∙_, subst, Bool, true, false, List, ℕ, _-_, _*_, _≤_}
+use Rattle.wire.proofs.Usual.{arith, eq-eqb, length, replicate, length-append, length-replicate}
+use native.Mathlib.Nat.{mul-le-mul-left}
 use Rattle.wire.specs.Words.{bytes4}
 use Rattle.wire.specs.Tables.{first}
 use Rattle.wire.proofs.Records.{length-gather}
+use Rattle.wire.proofs.Packing.{hits-most, entries-length}
 use Rattle.project.specs.Project.{Project, blockCount, wordSize, outputCount}
 use Rattle.casefile.specs.Bodies.{projectOf}
 use Rattle.casefile.specs.Refusal.{fileTable}
@@ -13,7 +14,7 @@ use Rattle.casefile.proofs.Refusals.{number-zero}
 use Rattle.casefile.proofs.Accepted.{accepted}
 use Rattle.block.specs.Finding.{findingSize}
 use Rattle.evaluator.specs.State.{stateLength, outputsLength, findingsLength, stateFormed}
-use Rattle.evaluator.specs.Packed.{entries, packed}
+use Rattle.wire.specs.Packed.{entries, packed}
 use Rattle.evaluator.specs.Cycle.{newOutputs, newFindings, enters, finding, outputWord}
 use Rattle.evaluator.specs.Answer.{recordOk, Lent, Left, sizesOk, callRows, refusal, leaves, cycleOf}
 use Rattle.evaluator.specs.Steps.{stepAnswer, stepState, stepFindings}
@@ -26,14 +27,7 @@ use Rattle.evaluator.proofs.Calls.{rows-12, rows-none, refused-rows, ca
 
 module _ (w : ℕ) (hit : ℕ → Bool) (f : ℕ → List ℕ) (long : (b : ℕ) → length (f b) ≡ w) where
   entries-few : (n : ℕ) → length (entries n hit f) ≤ w * n
-  unfolding entries
-  entries-few zero = omega arith
-  entries-few (suc n) = go (entries-few n) (hit n)
-    where
-      go : length (entries n hit f) ≤ w * n → (t : Bool) →
-          length (entries n hit f ++ cond t (f n) []) ≤ w * suc n
-      go l true = omega (arith, l, length-append (entries n hit f) (f n), long n, mul-suc w n)
-      go l false = omega (arith, l, length-append (entries n hit f) [], mul-suc w n)
+  entries-few n = omega (arith, entries-length w hit f n (λ b _. long b), mul-le-mul-left w (hits-most n hit))
 
   packed-long : (n : ℕ) → length (packed (w * n) n hit f) ≡ w * n
   unfolding packed

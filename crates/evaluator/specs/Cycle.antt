@@ -7,7 +7,8 @@ use mathlib.Core.List.{List, [], _∷_, _++_}
 use Rattle.wire.specs.Words.{bytes4}
 use Rattle.wire.specs.Records.{gather}
 use Rattle.kind.specs.Devices.{isErrAck}
-use Rattle.project.specs.Project.{groupCount, blockCount, kindOf, groupOf, orderOf, parametersOf, linkOf, outputCount}
+use Rattle.project.specs.Project.{groupCount, blockCount, kindOf, groupOf, orderOf, parametersOf, linkOf}
+use Rattle.project.specs.Project.{outputCount}
 use Rattle.project.specs.Project.{outputBlock, outputPort}
 use Rattle.block.specs.Inputs.{firstRead, secondRead}
 use Rattle.block.specs.State.{entersFrom}
@@ -17,7 +18,7 @@ use Rattle.block.specs.Finding.{findingSize, findingOf}
 use Rattle.evaluator.specs.Net.{Wires, Net, words, seen, after}
 use Rattle.evaluator.specs.State.{cell}
 use Rattle.evaluator.specs.Groups.{elapsed, controlByte, inputWord, newGroup, phase}
-use Rattle.evaluator.specs.Packed.{hits, packed}
+use Rattle.wire.specs.Packed.{hits, packed}
 
 -- ---- the blocks
 

@@ -1,7 +1,6 @@
 pub mod Net
 pub mod State
 pub mod Groups
-pub mod Packed
 pub mod Cycle
 pub mod Answer
 pub mod Runs

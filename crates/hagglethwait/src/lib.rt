@@ -1,12 +1,18 @@
 // The product's calls for programs in other languages: a static library whose functions have C's calling convention,
-// over numbers and byte slices. A slice stands in C as two arguments, a pointer and a length
-// (`include/hagglethwait.h`). No function requires anything; refused, a call writes nothing.
+// over numbers, byte slices and arrays. A slice stands in C as two arguments, a pointer and a length, an array that is
+// lent as a pointer (`include/hagglethwait.h`). No function requires anything; refused, a call writes nothing.
 ghost use mathlib.Core.Path.{_≡_};
 ghost use Rattle.casefile.specs.Refusal.{verdict, numberOf};
 ghost use Rattle.evaluator.specs.Fresh.{sizesOf, sizesNumber, freshNumber, freshLeft};
+ghost use Rattle.year.specs.Ledger.{ledgerNumber};
+ghost use Rattle.year.specs.Year.{yearOf};
 ghost use Rattle.hagglethwait.specs.Calls.{callOf, answerNumber, stateSaid, outputsSaid, findingsSaid};
+ghost use Rattle.hagglethwait.specs.Ledgers.{findingsLeft, dismissedLeft, ratesLeft, bendsLeft};
 use evaluator::Answer;
 use evaluator::Sizes;
+use ledgers::PLACES;
+
+mod ledgers;
 
 // 0 for a case file, or the number with which it is turned down.
 #[no_mangle]
@@ -82,4 +88,41 @@ pub extern "C" fn hagglethwait_cycle(
         Answer::Findings(count) => count as i32,
         Answer::Refused(number) => -(number as i32),
     }
+}
+
+// The two tables of a ledger: findings, dismissed ones and rates month by month, those with script closings first, and
+// the bends. Answers 0, or the number with which the ledger is turned down.
+#[no_mangle]
+pub extern "C" fn hagglethwait_ledger(
+    file: &[u8],
+    findings: &mut [u32; PLACES],
+    dismissed: &mut [u32; PLACES],
+    rates: &mut [f64; PLACES],
+    bends: &mut [u8; 2],
+) -> u8
+    ensures answered { λ r. ⌜ r ≡ ledgerNumber (now (file .entry)) ⌝ }
+    ensures found { λ _. ⌜ now (findings .exit)
+        ≡ findingsLeft (yearOf (now (file .entry))) (now (findings .entry)) ⌝ }
+    ensures gone { λ _. ⌜ now (dismissed .exit)
+        ≡ dismissedLeft (yearOf (now (file .entry))) (now (dismissed .entry)) ⌝ }
+    ensures rated { λ _. ⌜ now (rates .exit) ≡ ratesLeft (yearOf (now (file .entry))) (now (rates .entry)) ⌝ }
+    ensures bent { λ _. ⌜ now (bends .exit) ≡ bendsLeft (yearOf (now (file .entry))) (now (bends .entry)) ⌝ }
+{
+    let answer = year::year_of(file);
+    if answer.number != 0 {
+        return answer.number;
+    }
+    let every = answer.every;
+    let person = answer.person;
+    let first = every.lines;
+    let second = person.lines;
+    let columns = ledgers::columns_of(first, second);
+    let found = columns.findings;
+    let gone = columns.dismissed;
+    let rated = columns.rates;
+    *findings = found;
+    *dismissed = gone;
+    *rates = rated;
+    *bends = ledgers::bends_of(every, person);
+    answer.number
 }

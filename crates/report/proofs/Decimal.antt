@@ -11,7 +11,8 @@ use native.Mathlib.Nat.{pow-succ', one-le-pow}
 use borrow.Author.Tests.{le-ltb}
 use lib.IntN.{ℤ, pos, negsuc, natAbs}
 use Rattle.numbers.specs.Types.{isNeg}
-use Rattle.report.specs.Decimal.{digit, digitsWithin, decimal, signedDecimal, readOn, valueOf, Digits, Numeral}
+use Rattle.report.specs.Decimal.{digit, digitsWithin, decimal, signedDecimal, readOn, valueOf, Digits}
+use Rattle.report.specs.Decimal.{Numeral}
 
 -- ---- one digit more
 
@@ -60,7 +61,7 @@ module _ (P : ℕ → Type 0) (small : (n : ℕ) → n < 10 → P n)
 
 -- ---- how many digits
 
-pub tenth : (n : ℕ) → 10 ≤ n → length (decimal n) ≡ suc (length (decimal (n / 10)))
+tenth : (n : ℕ) → 10 ≤ n → length (decimal n) ≡ suc (length (decimal (n / 10)))
 tenth n h = ap length (decimal-more n h) ∙ length-append (decimal (n / 10)) (digit (n % 10) ∷ []) ∙ omega arith
 
 pub decimal-one : (n : ℕ) → n < 10 → length (decimal n) ≡ 1

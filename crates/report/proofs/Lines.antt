@@ -8,7 +8,9 @@ use Rattle.numbers.specs.Types.{value}
 use Rattle.numbers.specs.declared.NumType.{NumType}
 use Rattle.numbers.proofs.Range.{value-small}
 use Rattle.report.specs.Lines.{findingLine, endLine, refusedLine, Printed}
+use Rattle.report.specs.LedgerLines.{monthFront, rateLine, noRateLine, bendLine}
 use Rattle.report.proofs.Decimal.{decimal-ten, signed-eleven}
+use Rattle.report.proofs.Hexadecimal.{hex-length}
 
 pub finding-short : (cycle block text diagnosis : ℕ) (ta : NumType) (x : ℕ) (tb : NumType) (y : ℕ) →
     cycle < 2 ^ 32 → block < 2 ^ 32 → text < 2 ^ 32 → diagnosis < 2 ^ 32 → x < 2 ^ 32 → y < 2 ^ 32 →
@@ -34,6 +36,29 @@ end-short cycles findings c f = simp length-append (omega (arith, decimal-ten cy
 pub refused-short : (number : ℕ) → number < 2 ^ 32 → length (refusedLine number) ≤ 96
 unfolding refusedLine
 refused-short number n = simp length-append (omega (arith, decimal-ten number n))
+
+-- what a month's line begins with has at most 38 bytes
+pub front-short : (month findings dismissed : ℕ) → month < 2 ^ 32 → findings < 2 ^ 32 → dismissed < 2 ^ 32 →
+    length (monthFront month findings dismissed) ≤ 38
+unfolding monthFront
+front-short month findings dismissed m f d =
+    simp length-append (omega (arith, decimal-ten month m, decimal-ten findings f, decimal-ten dismissed d))
+
+pub rate-short : (month findings dismissed bits : ℕ) → month < 2 ^ 32 → findings < 2 ^ 32 →
+    dismissed < 2 ^ 32 → length (rateLine month findings dismissed bits) ≤ 96
+unfolding rateLine
+rate-short month findings dismissed bits m f d =
+    simp length-append (omega (arith, front-short month findings dismissed m f d, hex-length 16 bits))
+
+pub no-rate-short : (month findings dismissed : ℕ) → month < 2 ^ 32 → findings < 2 ^ 32 → dismissed < 2 ^ 32 →
+    length (noRateLine month findings dismissed) ≤ 96
+unfolding noRateLine
+no-rate-short month findings dismissed m f d =
+    simp length-append (omega (arith, front-short month findings dismissed m f d))
+
+pub bend-short : (month : ℕ) → month < 2 ^ 32 → length (bendLine month) ≤ 96
+unfolding bendLine
+bend-short month m = simp length-append (omega (arith, decimal-ten month m))
 
 -- a buffer that is long enough holds the line at its front
 pub line-front : (line buffer : List ℕ) → length line ≤ length buffer →

@@ -1,13 +1,12 @@
--- Text that is stored piece by piece: one piece behind another is one text, and a number's digits may be stored from
--- the last to the first.
+-- Text that is stored piece by piece: one piece behind another is one text, and characters may be stored from the last
+-- to the first, as a number's digits are.
 -- Assumes nothing.
-use Rattle.wire.proofs.Usual.{_≡_, refl, sym, ap, _∙_, List, [], _∷_, _++_, append-nil, ℕ, suc, _+_, _-_, _/_}
-use Rattle.wire.proofs.Usual.{_%_, _≤_, _<_, zero-add, arith, length, set, length-append, sets}
+use Rattle.wire.proofs.Usual.{_≡_, refl, sym, ap, _∙_, List, [], _∷_, _++_, append-nil, ℕ, suc, _+_, _-_}
+use Rattle.wire.proofs.Usual.{_≤_, zero-add, arith, length, set, length-append, sets}
+use native.Mathlib.Nat.{add-zero}
 use lib.Seq.{length-sets, append-snoc}
 use Rattle.wire.proofs.Stores.{sets-append, set-sets-comm}
-use Rattle.report.specs.Decimal.{digit, decimal}
 use Rattle.report.specs.Lines.{Printed, Put}
-use Rattle.report.proofs.Decimal.{decimal-small, decimal-more, decimal-one, decimal-some, tenth}
 
 -- ---- pieces
 
@@ -37,9 +36,10 @@ _then_ {s} {t} {l} {m} {n} {at} p q = record {
   place = omega (arith, p .place, q .place, length-append s t);
 }
 
--- a word at the front of a buffer
-pub put-word : {l n : List ℕ} (word : List ℕ) → n ≡ sets l 0 word → Put word l 0 n (length word)
-put-word word e = record { bytes = e; place = sym (zero-add (length word)) }
+-- a text that is stored at once
+pub put-text : {l n : List ℕ} {at : ℕ} (text : List ℕ) → n ≡ sets l at text →
+    Put text l at n (at + length text)
+put-text text e = record { bytes = e; place = refl }
 
 -- a last character
 pub put-last : {l n : List ℕ} {at : ℕ} (a : ℕ) → n ≡ set l at a → Put (a ∷ []) l at n (at + 1)
@@ -54,59 +54,61 @@ put-printed {line} h p = record {
   short = omega (arith, p .place);
 }
 
--- ---- digits from the last to the first
+-- ---- characters from the last to the first
 
--- of the digits of n, to be stored from `at` on, those of rest are left, and those behind them stand from `to` on
-pub record Behind (l : List ℕ) (at n : ℕ) (out : List ℕ) (to rest : ℕ) : Type 0 where
+-- of a text that is to be stored from `at` on, the front is left, and what is behind it stands from `to` on
+pub record Behind (l : List ℕ) (at : ℕ) (text out : List ℕ) (to : ℕ) (front : List ℕ) : Type 0 where
   pub tail : List ℕ
-  pub whole : decimal n ≡ decimal rest ++ tail
-  pub place : to ≡ at + length (decimal rest)
+  pub whole : text ≡ front ++ tail
+  pub place : to ≡ at + length front
   pub bytes : out ≡ sets l to tail
 
 -- nothing is stored
-pub behind-none : (l : List ℕ) (at n : ℕ) {k : ℕ} → k ≡ length (decimal n) → Behind l at n l (at + k) n
-behind-none l at n e = record {
+pub behind-none : (l : List ℕ) (at : ℕ) (text : List ℕ) {k : ℕ} → k ≡ length text →
+    Behind l at text l (at + k) text
+behind-none l at text e = record {
   tail = [];
-  whole = sym (append-nil (decimal n));
+  whole = sym (append-nil text);
   place = ap (λ (k : ℕ). at + k) e;
   bytes = refl;
 }
 
-module _ {l out : List ℕ} {at n to rest : ℕ} (b : Behind l at n out to rest) where
+module _ {l text out front : List ℕ} {at to : ℕ} (b : Behind l at text out to front) where
   -- the buffer is as long as it was
   pub behind-kept : length out ≡ length l
   behind-kept = ap length (b .bytes) ∙ length-sets l to (b .tail)
 
-  -- there is a digit left
-  pub behind-some : at + 1 ≤ to
-  behind-some = omega (arith, b .place, decimal-some rest)
+  -- where the front is not empty, there is a place for its last character
+  pub behind-some : 1 ≤ length front → at + 1 ≤ to
+  behind-some h = omega (arith, b .place)
 
-  -- one digit more
-  pub behind-more : {out' : List ℕ} → 10 ≤ rest → out' ≡ set out (to - 1) (digit (rest % 10)) →
-      Behind l at n out' (to - 1) (rest / 10)
-  behind-more h e =
-      let d = digit (rest % 10) in
-      let next : suc (to - 1) ≡ to = omega (arith, behind-some) in
+  -- one character more
+  pub behind-more : {out' front' : List ℕ} (a : ℕ) → front ≡ front' ++ (a ∷ []) →
+      out' ≡ set out (to - 1) a → Behind l at text out' (to - 1) front'
+  behind-more {out'} {front'} a f e =
+      let size : length front ≡ length front' + 1 = ap length f ∙ length-append front' (a ∷ []) in
+      let next : suc (to - 1) ≡ to = omega (arith, b .place, size) in
       record {
-        tail = d ∷ b .tail;
-        whole =
-            b .whole
-            ∙ ap (λ (s : List ℕ). s ++ b .tail) (decimal-more rest h)
-            ∙ append-snoc (decimal (rest / 10)) d (b .tail);
-        place = omega (arith, b .place, tenth rest h);
+        tail = a ∷ b .tail;
+        whole = b .whole ∙ ap (λ (s : List ℕ). s ++ b .tail) f ∙ append-snoc front' a (b .tail);
+        place = omega (arith, b .place, size);
         bytes =
             e
-            ∙ rw (b .bytes) (set-sets-comm (b .tail) l (to - 1) to d (omega arith))
-            ∙ ap (λ (k : ℕ). sets (set l (to - 1) d) k (b .tail)) (sym next);
+            ∙ rw (b .bytes) (set-sets-comm (b .tail) l (to - 1) to a (omega arith))
+            ∙ ap (λ (k : ℕ). sets (set l (to - 1) a) k (b .tail)) (sym next);
       }
 
-  -- the first digit
-  pub behind-all : {out' : List ℕ} → rest < 10 → out' ≡ set out at (digit rest) →
-      out' ≡ sets l at (decimal n)
-  behind-all h e =
-      let d = digit rest in
-      let next : to ≡ suc at = omega (arith, b .place, decimal-one rest h) in
-      e
-      ∙ rw (b .bytes) (set-sets-comm (b .tail) l at to d (omega arith))
-      ∙ ap (λ (k : ℕ). sets (set l at d) k (b .tail)) next
-      ∙ sym (ap (sets l at) (b .whole ∙ ap (λ (s : List ℕ). s ++ b .tail) (decimal-small rest h)))
+  -- nothing is left
+  pub behind-all : front ≡ [] → out ≡ sets l at text
+  behind-all f =
+      let start : to ≡ at = b .place ∙ ap (λ (s : List ℕ). at + length s) f ∙ add-zero at in
+      b .bytes
+      ∙ ap (λ (k : ℕ). sets l k (b .tail)) start
+      ∙ sym (ap (sets l at) (b .whole ∙ ap (λ (s : List ℕ). s ++ b .tail) f))
+
+-- the last character that was left, stored at its place
+pub behind-first : {l text out out' front : List ℕ} {at to : ℕ} (a : ℕ) → Behind l at text out to front →
+    front ≡ a ∷ [] → out' ≡ set out at a → out' ≡ sets l at text
+behind-first {out = out} {at = at} {to = to} a b f e =
+    let start : at ≡ to - 1 = omega (arith, b .place, ap length f) in
+    behind-all (behind-more b a f (e ∙ ap (λ (k : ℕ). set out k a) start)) refl

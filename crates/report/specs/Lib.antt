@@ -1,3 +1,4 @@
 pub mod Decimal
 pub mod Lines
+pub mod LedgerLines
 pub mod Samples

@@ -1,56 +1,13 @@
 -- Lines that are stored one behind the other, each in the bytes behind the ones before it. Assumes nothing.
-use Rattle.wire.proofs.Usual.{_≡_, refl, sym, ap, _∙_, subst, List, _++_, ℕ, zero-add, _+_, _-_, _*_}
-use Rattle.wire.proofs.Usual.{_≤_, arith, length, take, drop, length-drop, length-take-le, sets}
-use borrow.Rule.Slice.PartMut.{putMid, postOf, post-is, same-len-mid}
-use mathlib.Core.List.{append-assoc}
-use native.Mathlib.Nat.{add-sub-cancel-left}
+use Rattle.wire.proofs.Usual.{_≡_, refl, sym, ap, _∙_, subst, List, _++_, ℕ, _+_, _-_, _*_, _≤_, length}
+use Rattle.wire.proofs.Usual.{take, drop}
+use borrow.Rule.Slice.PartMut.{putMid}
 use native.Mathlib.Numerals.{add-one}
-use lib.ListN.{take-append-drop}
-use lib.Seq.{sets-eq, drop-drop, drop-append-le}
 use Rattle.project.specs.Project.{rowOf}
 use Rattle.block.specs.Finding.{findingSize, findingIn}
 use Rattle.report.specs.Lines.{lineMost, Printed, Put}
-use Rattle.report.proofs.Puts.{_then_}
-use Rattle.report.proofs.Lines.{line-front}
+use Rattle.report.proofs.Parts.{line-behind}
 use Rattle.tracer.specs.Text.{lineOf, linesOf}
-
--- what is stored at the front of the n bytes of a buffer from `at` on is stored in the buffer
-pub part-stored : (X Y v : List ℕ) (at n : ℕ) → at + n ≤ length X → length v ≤ n →
-    Y ≡ sets (take (at + n - at) (drop at X)) 0 v → putMid at (at + n - at) X Y ≡ sets X at v
-part-stored X Y v at n l k e =
-    (λ i. take at X ++ ((e ∙ part) i ++ post i))
-    ∙ ap (λ (t : List ℕ). take at X ++ t)
-    (append-assoc v (drop (length v) mid) (drop (at + n) X) ∙ ap (λ (t : List ℕ). v ++ t) rest)
-    ∙ sym (append-assoc (take at X) v (drop (at + length v) X))
-    ∙ sym (sets-eq v X at (omega arith))
-  where
-    mid : List ℕ
-    mid = take (at + n - at) (drop at X)
-
-    long : length mid ≡ n
-    long = length-take-le (at + n - at) (drop at X) (omega (arith, length-drop at X)) ∙ add-sub-cancel-left at n
-
-    post : postOf at (at + n - at) X ≡ drop (at + n) X
-    post = post-is at (at + n) X (omega arith)
-
-    part : sets mid 0 v ≡ v ++ drop (length v) mid
-    part =
-        sets-eq v mid 0 (omega (arith, long))
-        ∙ ap (λ (m : ℕ). v ++ drop m mid) (zero-add (length v))
-
-    rest : drop (length v) mid ++ drop (at + n) X ≡ drop (at + length v) X
-    rest =
-        let size : at + (at + n - at) ≡ at + n = omega arith in
-        ap (λ (t : List ℕ). drop (length v) mid ++ t)
-        (sym (drop-drop (at + n - at) at X ∙ ap (λ (m : ℕ). drop m X) size))
-        ∙ sym (drop-append-le (length v) mid (drop (at + n - at) (drop at X)) (omega (arith, long)))
-        ∙ ap (drop (length v)) (take-append-drop (at + n - at) (drop at X))
-        ∙ drop-drop (length v) at X
-
--- and the buffer stays as long
-pub part-long : (X Y : List ℕ) (at n : ℕ) → length Y ≡ length (take (at + n - at) (drop at X)) →
-    length (putMid at (at + n - at) X Y) ≡ length X
-part-long X Y at n e = same-len-mid at (at + n - at) X Y e
 
 -- no line
 pub lines-none : (B D out : List ℕ) (c : ℕ) → Put (linesOf B c 0 D) out 0 out 0
@@ -66,21 +23,9 @@ pub line-more : (B D : List ℕ) (c i : ℕ) {out₀ out out₁ f : List ℕ} {a
 unfolding linesOf rowOf
 line-more B D c i {out₀} {out} {out₁} {f} {at} {size} p l e q =
     subst (λ (t : List ℕ). Put t out₀ 0 (putMid at (at + lineMost - at) out out₁) (at + size)) (sym lines)
-    (p then record {
-      bytes =
-          part-stored out out₁ (lineOf B c (findingIn f)) at lineMost l (omega (arith, q .whole, q .short))
-          (q .bytes);
-      place = ap (λ (n : ℕ). at + n) (q .whole);
-    })
+    (line-behind p l q)
   where
     lines : linesOf B c (i + 1) D ≡ linesOf B c i D ++ lineOf B c (findingIn f)
     lines =
         ap (λ (k : ℕ). linesOf B c k D) (add-one i)
         ∙ ap (λ (r : List ℕ). linesOf B c i D ++ lineOf B c (findingIn r)) (sym e)
-
--- a text at the front of a buffer that has room for it
-pub put-whole : {text before after : List ℕ} {size : ℕ} → Put text before 0 after size →
-    size ≤ length before → take size after ≡ text
-put-whole {text} {before} {after} {size} p h =
-    let long : size ≡ length text = p .place ∙ zero-add (length text) in
-    rw (p .bytes, long) (line-front text before (omega (arith, long)))

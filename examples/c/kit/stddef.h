@@ -1,4 +1,4 @@
-/* What the example uses of C's headers, for a compiler that comes without them. */
+/* What the examples use of C's headers, for a compiler that comes without them. */
 #ifndef KIT_STDDEF_H
 #define KIT_STDDEF_H
 typedef __SIZE_TYPE__ size_t;

@@ -1,4 +1,4 @@
-/* What the example uses of C's headers, for a compiler that comes without them. */
+/* What the examples use of C's headers, for a compiler that comes without them. */
 #ifndef KIT_STDIO_H
 #define KIT_STDIO_H
 #include <stddef.h>

@@ -30,10 +30,18 @@ mod raw {
             findings: *mut u8,
             findings_size: usize,
         ) -> i32;
+        pub fn hagglethwait_ledger(
+            file: *const u8,
+            file_size: usize,
+            findings: *mut [[u32; 12]; 2],
+            dismissed: *mut [[u32; 12]; 2],
+            rates: *mut [[f64; 12]; 2],
+            bends: *mut [u8; 2],
+        ) -> u8;
     }
 }
 
-/// The number with which a call is turned down, 1 to 12.
+/// The number with which a call is turned down: 1 to 12, a ledger's 21 to 24.
 #[derive(Clone, Copy, Debug, PartialEq, Eq)]
 pub struct Refused(pub u8);
 
@@ -109,4 +117,46 @@ pub fn cycle(
         0.. => Ok(answer as usize),
         _ => Err(Refused(-answer as u8)),
     }
+}
+
+/// A month of a ledger: its findings, the dismissed ones, and the rate where there is a finding.
+#[derive(Clone, Copy, Debug, PartialEq)]
+pub struct Line {
+    pub findings: u32,
+    pub dismissed: u32,
+    pub rate: Option<f64>,
+}
+
+/// The twelve months, and the bend, counted from 1: the month where the dismissed share of all later months less that of
+/// all up to and with it is largest; none where fewer than two months have a finding.
+#[derive(Clone, Copy, Debug, PartialEq)]
+pub struct Table {
+    pub lines: [Line; 12],
+    pub bend: Option<u8>,
+}
+
+/// The two tables of a ledger: with and without script closings.
+pub fn ledger(file: &[u8]) -> Result<[Table; 2], Refused> {
+    let (mut findings, mut dismissed) = ([[0; 12]; 2], [[0; 12]; 2]);
+    let (mut rates, mut bends) = ([[0.0; 12]; 2], [0; 2]);
+    accepted(unsafe {
+        raw::hagglethwait_ledger(
+            file.as_ptr(),
+            file.len(),
+            &mut findings,
+            &mut dismissed,
+            &mut rates,
+            &mut bends,
+        )
+    })?;
+    let line = |t: usize, m: usize| Line {
+        findings: findings[t][m],
+        dismissed: dismissed[t][m],
+        rate: (findings[t][m] != 0).then_some(rates[t][m]),
+    };
+    let table = |t: usize| Table {
+        lines: std::array::from_fn(|m| line(t, m)),
+        bend: (bends[t] != 0).then_some(bends[t]),
+    };
+    Ok([table(0), table(1)])
 }

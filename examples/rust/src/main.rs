@@ -1,7 +1,5 @@
 //! Evaluates the case file on standard input with the library and prints what the program `trace` prints.
 
-mod desk;
-
 use desk::Refused;
 use std::io::{self, Read, Write};
 

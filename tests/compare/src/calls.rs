@@ -2,11 +2,37 @@
 //! in between.
 
 use crate::case::Case;
+use crate::coverage::Coverage;
 use crate::cycles::{well_formed, Machine};
 use crate::damage;
 use crate::project::{accepted, Size};
 use crate::random::Random;
-use crate::request::Request;
+use crate::request::{Request, Source};
+
+/// Calls, and what came up in them.
+pub struct CountedCalls {
+    calls: Calls,
+    coverage: Coverage,
+}
+
+impl CountedCalls {
+    pub fn new(seed: u64, small: bool, checks: bool) -> CountedCalls {
+        CountedCalls { calls: Calls::new(seed, small, checks), coverage: Coverage::default() }
+    }
+}
+
+impl Source for CountedCalls {
+    fn next(&mut self) -> Result<(Request, Vec<u8>), String> {
+        let (request, answer) = self.calls.next()?;
+        self.coverage.add(&request, &answer);
+        Ok((request, answer))
+    }
+
+    fn report(&self) -> Vec<String> {
+        print!("{}", self.coverage.table());
+        self.coverage.missing(!self.calls.checks)
+    }
+}
 
 pub struct Calls {
     random: Random,

@@ -22,21 +22,25 @@ pub struct Case {
     pub t: Vec<u8>,
 }
 
+/// A file of bodies, with the table of contents that fits them: start and length of each.
+pub fn with_contents(bodies: &[&Vec<u8>]) -> Vec<u8> {
+    let mut file = Vec::new();
+    let mut start = 8 * bodies.len() as u32;
+    for body in bodies {
+        file.extend(start.to_le_bytes());
+        file.extend((body.len() as u32).to_le_bytes());
+        start += body.len() as u32;
+    }
+    for body in bodies {
+        file.extend(*body);
+    }
+    file
+}
+
 impl Case {
     /// The file: the table of contents, then the bodies.
     pub fn file(&self) -> Vec<u8> {
-        let bodies = [&self.g, &self.i, &self.b, &self.o, &self.t];
-        let mut file = Vec::new();
-        let mut start = 40u32;
-        for body in bodies {
-            file.extend(start.to_le_bytes());
-            file.extend((body.len() as u32).to_le_bytes());
-            start += body.len() as u32;
-        }
-        for body in bodies {
-            file.extend(body);
-        }
-        file
+        with_contents(&[&self.g, &self.i, &self.b, &self.o, &self.t])
     }
 
     /// The bodies of a file whose table of contents is in order.

@@ -42,13 +42,10 @@ pub struct Coverage {
 }
 
 impl Coverage {
-    pub fn calls(&self) -> u64 {
-        self.checks.iter().sum::<u64>() + self.cycles.iter().sum::<u64>()
-    }
-
     pub fn add(&mut self, request: &Request, answer: &[u8]) {
         match request {
             Request::Check { .. } => self.checks[usize::from(answer[0])] += 1,
+            Request::Ledger { .. } => {}
             Request::Cycle { file, record, state, .. } => {
                 self.cycles[usize::from(answer[0])] += 1;
                 if answer[0] == 0 {
@@ -224,7 +221,7 @@ impl Coverage {
     }
 }
 
-fn row(text: &mut String, name: &str, cells: &[String]) {
+pub fn row(text: &mut String, name: &str, cells: &[String]) {
     write!(text, "  {name:<22}").unwrap();
     for cell in cells {
         write!(text, "{cell:>9}").unwrap();
@@ -233,11 +230,11 @@ fn row(text: &mut String, name: &str, cells: &[String]) {
     text.push('\n');
 }
 
-fn counts(numbers: &[u64]) -> Vec<String> {
+pub fn counts(numbers: &[u64]) -> Vec<String> {
     numbers.iter().map(u64::to_string).collect()
 }
 
-fn words(words: &[&str]) -> Vec<String> {
+pub fn words(words: &[&str]) -> Vec<String> {
     words.iter().map(|word| word.to_string()).collect()
 }
 

@@ -4,6 +4,9 @@ use crate::case::*;
 use crate::project::parameters;
 use crate::random::Random;
 
+/// The most bytes of a file that `batch` has room for: one more than the largest ledger.
+pub const FILE_ROOM: usize = 294_937;
+
 /// A file that is likely to be turned down with this number, 1 to 9. Sometimes it is accepted all the same, or turned
 /// down with a lower number: the answer is the reference's business.
 pub fn file(random: &mut Random, good: &Case, number: u8) -> Vec<u8> {
@@ -35,7 +38,7 @@ fn size(random: &mut Random, good: &Case) -> Vec<u8> {
     let length = match random.below(64) {
         0 => LARGEST_FILE + 1,
         1 => LARGEST_FILE + random.below(100),
-        2 if random.one_in(4) => 131_072,
+        2 if random.one_in(4) => FILE_ROOM,
         3 if random.one_in(4) => LARGEST_FILE + 1 + random.below(65_000),
         4..=12 => 39,
         13..=20 => 0,

@@ -1,16 +1,24 @@
 //! Compares the product's programs with the reference, on random and damaged cases. `compare --help` says how.
 
+mod bends;
 mod calls;
 mod case;
 mod coverage;
 mod cycles;
 mod damage;
+mod ledger;
+mod ledger_aims;
+mod ledger_coverage;
+mod ledger_damage;
+mod ledger_sizes;
+mod ledgers;
 mod pipe;
 mod project;
 mod protocol;
 mod random;
 mod renumber;
 mod request;
+mod texts;
 mod traces;
 
 use std::collections::VecDeque;
@@ -18,10 +26,10 @@ use std::fs::File;
 use std::io::{BufReader, BufWriter, Write};
 use std::process::ExitCode;
 
-use calls::Calls;
-use coverage::Coverage;
+use calls::CountedCalls;
+use ledgers::Ledgers;
 use pipe::Server;
-use request::Request;
+use request::{Request, Source};
 
 const HELP: &str = "\
 compare --calls N [--seed S] [--small] [--checks] PROGRAM [ARG..]
@@ -34,9 +42,14 @@ compare --renumber N [--seed S] [--alone] PROGRAM [ARG..]
     Runs PROGRAM (`batch`) on N projects twice, in two execution orders that are alike along every link: sequences of
     cycle calls, refused ones among them, whose answers must be the same, and the reference's. --alone: they are not
     held against the reference's.
-compare --corpus N IN OUT [--renumber M] [--seed S]
-    Writes N requests over small projects, and after them the calls over M renumbered ones, to IN and the reference's
-    answers to OUT; asks no program.
+compare --ledgers N [--seed S] PROGRAM [ARG..]
+    Sends N ledgers (L) to PROGRAM (`batch`), as --calls does. It fails also where something that has to come up does
+    not.
+compare --years N [--seed S] PROGRAM [ARG..]
+    Runs PROGRAM (`ledger`) on N ledgers, and compares what it prints with the reference.
+compare --corpus N IN OUT [--renumber M] [--ledgers L] [--seed S]
+    Writes N requests over small projects, after them the calls over M renumbered ones, and ledgers of every sort with L
+    random ones more, to IN and the reference's answers to OUT; asks no program.
 compare --traces N [--seed S] PROGRAM [ARG..]
     Runs PROGRAM (`trace`) on N files, and compares what it prints with the reference.
 compare --protocol [--checks] PROGRAM [ARG..]
@@ -48,6 +61,8 @@ struct Options {
     calls: Option<u64>,
     traces: Option<u64>,
     renumber: Option<u64>,
+    ledgers: Option<u64>,
+    years: Option<u64>,
     corpus: Option<(u64, String, String)>,
     replay: Option<String>,
     protocol: bool,
@@ -72,6 +87,8 @@ fn options() -> Result<Options, String> {
             "--calls" => options.calls = Some(number(value()?)?),
             "--traces" => options.traces = Some(number(value()?)?),
             "--renumber" => options.renumber = Some(number(value()?)?),
+            "--ledgers" => options.ledgers = Some(number(value()?)?),
+            "--years" => options.years = Some(number(value()?)?),
             "--seed" => options.seed = number(value()?)?,
             "--replay" => options.replay = Some(value()?),
             "--corpus" => options.corpus = Some((number(value()?)?, value()?, value()?)),
@@ -91,18 +108,26 @@ fn options() -> Result<Options, String> {
 
 fn main() -> ExitCode {
     let done = options().and_then(|options| {
+        let (seed, program) = (options.seed, &options.program[..]);
         if let Some((count, requests, answers)) = &options.corpus {
-            corpus(*count, options.renumber.unwrap_or(0), requests, answers, options.seed)
+            corpus(*count, &options, requests, answers)
         } else if let Some(file) = &options.replay {
-            replay(file, &options.program)
+            replay(file, program)
         } else if let Some(count) = options.traces {
-            traces::compare(count, options.seed, &options.program)
+            traces::compare(count, seed, program)
+        } else if let Some(count) = options.years {
+            ledgers::years(count, seed, program)
         } else if let Some(count) = options.renumber {
-            renumber::compare(count, options.seed, options.alone, &options.program)
+            renumber::compare(count, seed, options.alone, program)
         } else if options.protocol {
-            protocol::compare(options.checks, &options.program)
+            protocol::compare(options.checks, program)
+        } else if let Some(count) = options.ledgers {
+            match &compare(count, seed, program, Ledgers::new(seed))?[..] {
+                [] => Ok(()),
+                _ => Err("something that has to come up did not".to_string()),
+            }
         } else if let Some(count) = options.calls {
-            compare(count, &options)
+            compare(count, seed, program, CountedCalls::new(seed, options.small, options.checks)).map(|_| ())
         } else {
             Err(HELP.to_string())
         }
@@ -120,40 +145,36 @@ fn start(program: &[String]) -> Result<Server, String> {
     Server::start(program).map_err(|error| format!("{}: {error}", program[0]))
 }
 
-fn compare(count: u64, options: &Options) -> Result<(), String> {
-    let (seed, program) = (options.seed, &options.program[..]);
+/// Sends requests of a source one by one. Gives what has to come up and did not.
+fn compare(count: u64, seed: u64, program: &[String], mut source: impl Source) -> Result<Vec<String>, String> {
     println!("seed {seed}, {count} calls, program {}", program.join(" "));
     let mut server = start(program)?;
-    let mut calls = Calls::new(seed, options.small, options.checks);
-    let mut coverage = Coverage::default();
     let mut last = VecDeque::new();
     let step = (count / 10).max(1);
     for call in 1..=count {
-        let (request, expected) = calls.next().map_err(|why| format!("call {call}: {why} (seed {seed})"))?;
-        let bytes = request.bytes();
-        let answer = server.ask(&bytes, expected.len());
-        last.push_back(bytes);
+        let (request, expected) = source.next().map_err(|why| format!("call {call}: {why} (seed {seed})"))?;
+        let answer = server.ask(&request);
+        last.push_back(request.bytes());
         if last.len() > 100 {
             last.pop_front();
         }
         if answer != expected {
             return Err(disagreement(seed, call, &request, &expected, &answer, last, program));
         }
-        coverage.add(&request, &expected);
         if call % step == 0 {
             println!("{call} calls, no disagreement");
         }
     }
     let (rest, ended) = server.finish().map_err(|error| error.to_string())?;
-    print!("{}", coverage.table());
-    for what in coverage.missing(!options.checks) {
+    let missing = source.report();
+    for what in &missing {
         println!("  did not come up: {what}");
     }
     if !rest.is_empty() || !ended {
         return Err(format!("after the last answer: {} bytes more, ended normally: {ended}", rest.len()));
     }
-    println!("{} calls compared, no disagreement (seed {seed})", coverage.calls());
-    Ok(())
+    println!("{count} calls compared, no disagreement (seed {seed})");
+    Ok(missing)
 }
 
 /// Writes the request that was answered differently to a file: alone, if the program's answer is the same when it is
@@ -168,7 +189,7 @@ fn disagreement(
     program: &[String],
 ) -> String {
     let bytes = request.bytes();
-    let alone = start(program).map(|mut server| server.ask(&bytes, expected.len())).unwrap_or_default();
+    let alone = start(program).map(|mut server| server.ask(request)).unwrap_or_default();
     let (content, how) = if alone == answer {
         (bytes, "the request alone")
     } else {
@@ -191,7 +212,7 @@ fn replay(file: &str, program: &[String]) -> Result<(), String> {
     while let Some(request) = Request::read(&mut from).map_err(|error| format!("{file}: {error}"))? {
         count += 1;
         let expected = request.expected();
-        let answer = server.ask(&request.bytes(), expected.len());
+        let answer = server.ask(&request);
         if answer == expected {
             println!("request {count}: {}", request.describe(&expected));
         } else {
@@ -208,25 +229,35 @@ fn replay(file: &str, program: &[String]) -> Result<(), String> {
     }
 }
 
-fn corpus(count: u64, pairs: u64, requests: &str, answers: &str, seed: u64) -> Result<(), String> {
+fn corpus(count: u64, options: &Options, requests: &str, answers: &str) -> Result<(), String> {
     let create = |name: &str| File::create(name).map(BufWriter::new).map_err(|error| format!("{name}: {error}"));
     let (mut to, mut from) = (create(requests)?, create(answers)?);
-    let mut calls = Calls::new(seed, true, false);
-    let mut coverage = Coverage::default();
+    let seed = options.seed;
+    write(count, CountedCalls::new(seed, true, false), &mut to, &mut from)?;
+    if let Some(pairs) = options.renumber {
+        renumber::corpus(pairs, seed, &mut to, &mut from)?;
+    }
+    if let Some(more) = options.ledgers {
+        let source = Ledgers::corpus(seed);
+        write(source.in_turn() + more, source, &mut to, &mut from)?;
+    }
+    Ok(())
+}
+
+/// Writes requests of a source and the reference's answers. All that has to come up must.
+fn write(count: u64, mut source: impl Source, to: &mut impl Write, from: &mut impl Write) -> Result<(), String> {
+    let mut bytes = 0;
     for _ in 0..count {
-        let (request, answer) = calls.next()?;
-        coverage.add(&request, &answer);
-        to.write_all(&request.bytes()).map_err(|error| error.to_string())?;
+        let (request, answer) = source.next()?;
+        let request = request.bytes();
+        bytes += request.len();
+        to.write_all(&request).map_err(|error| error.to_string())?;
         from.write_all(&answer).map_err(|error| error.to_string())?;
     }
-    print!("{}", coverage.table());
-    let missing = coverage.missing(true);
+    let missing = source.report();
     if !missing.is_empty() {
         return Err(format!("these did not come up: {}", missing.join("; ")));
     }
-    println!("{count} requests written (seed {seed}); everything came up");
-    if pairs > 0 {
-        renumber::corpus(pairs, seed, &mut to, &mut from)?;
-    }
+    println!("{count} requests written, {bytes} bytes; everything came up");
     Ok(())
 }

@@ -6,6 +6,8 @@ use std::sync::atomic::{AtomicU64, Ordering};
 use std::sync::{Arc, Mutex};
 use std::time::Duration;
 
+use crate::request::Request;
+
 /// A program that does not answer for this long is ended, and that is a disagreement.
 const PATIENCE: Duration = Duration::from_secs(60);
 
@@ -41,22 +43,23 @@ impl Server {
         Ok(Server { child, requests, answers, answered })
     }
 
-    /// Sends one request and reads its answer of `size` bytes. Fewer bytes come back where the program ended before.
-    pub fn ask(&mut self, request: &[u8], size: usize) -> Vec<u8> {
+    /// Sends one request and reads its answer. Fewer bytes come back where the program ended before.
+    pub fn ask(&mut self, request: &Request) -> Vec<u8> {
         let requests = self.requests.as_mut().expect("the input is open");
-        let mut answer = vec![0; size];
-        let mut got = 0;
-        if requests.write_all(request).and_then(|()| requests.flush()).is_ok() {
-            while got < size {
-                match self.answers.read(&mut answer[got..]) {
-                    Ok(0) | Err(_) => break,
-                    Ok(more) => got += more,
-                }
+        let mut answer = Vec::new();
+        if requests.write_all(&request.bytes()).and_then(|()| requests.flush()).is_ok() {
+            self.read(&mut answer, 1);
+            if let [first] = answer[..] {
+                self.read(&mut answer, request.answer_size(first) - 1);
             }
         }
-        answer.truncate(got);
         self.answered.fetch_add(1, Ordering::Relaxed);
         answer
+    }
+
+    /// Reads so many bytes more, or fewer where there are no more.
+    fn read(&mut self, into: &mut Vec<u8>, bytes: usize) {
+        let _ = (&mut self.answers).take(bytes as u64).read_to_end(into);
     }
 
     /// Ends the input; answers what was still written, and whether the program ended normally.

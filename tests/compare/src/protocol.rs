@@ -3,9 +3,13 @@
 //! themselves.
 
 use crate::calls::Calls;
+use crate::damage::FILE_ROOM;
+use crate::ledger_aims::small;
 use crate::pipe;
+use crate::random::Random;
+use crate::request::Request;
 
-const ROOM: [usize; 5] = [131_072, 8_192, 8_192, 8_192, 8_192];
+const ROOM: [usize; 5] = [FILE_ROOM, 8_192, 8_192, 8_192, 8_192];
 
 pub fn compare(checks: bool, program: &[String]) -> Result<(), String> {
     let mut tried = 0;
@@ -13,8 +17,12 @@ pub fn compare(checks: bool, program: &[String]) -> Result<(), String> {
         for (name, bad) in breaches() {
             let (mut input, mut expected) = (Vec::new(), Vec::new());
             let mut calls = Calls::new(good + 1, true, checks);
-            for _ in 0..good {
-                let (request, answer) = calls.next()?;
+            for number in 0..good {
+                let (mut request, mut answer) = calls.next()?;
+                if number == 1 {
+                    request = Request::Ledger { file: small(&mut Random::new(good)).file() };
+                    answer = request.expected();
+                }
                 input.extend(request.bytes());
                 expected.extend(answer);
             }
@@ -51,23 +59,31 @@ fn cycle(sizes: [usize; 5]) -> Vec<u8> {
     bytes
 }
 
+/// A letter and the length of a file.
+fn front(letter: u8, size: usize) -> Vec<u8> {
+    [&[letter][..], &(size as u32).to_le_bytes()].concat()
+}
+
 /// What is not a request, each with its name.
 fn breaches() -> Vec<(String, Vec<u8>)> {
     let mut all = vec![
         ("an unknown letter".to_string(), b"Z".to_vec()),
         ("a zero byte".to_string(), vec![0]),
-        ("a small letter".to_string(), b"c\x01\0\0\0\0".to_vec()),
-        ("a file too long to check".to_string(), [b"C".to_vec(), 131_073u32.to_le_bytes().to_vec()].concat()),
-        ("a length of 2^32 - 1".to_string(), b"C\xFF\xFF\xFF\xFF".to_vec()),
+        ("a small c".to_string(), b"c\x01\0\0\0\0".to_vec()),
+        ("a small l".to_string(), b"l\x01\0\0\0\0".to_vec()),
     ];
+    for (letter, what) in [(b'C', "check"), (b'L', "ledger")] {
+        all.push((format!("a file too long for a {what}"), front(letter, FILE_ROOM + 1)));
+        all.push((format!("a {what} of 2^32 - 1 bytes"), front(letter, u32::MAX as usize)));
+        let whole = [front(letter, 5), b"abcde".to_vec()].concat();
+        for end in 1..whole.len() {
+            all.push((format!("a {what} broken off at byte {end}"), whole[..end].to_vec()));
+        }
+    }
     for which in 0..5 {
         let mut sizes = [7; 5];
         sizes[which] = ROOM[which] + 1;
         all.push((format!("buffer {which} of a cycle too long"), cycle(sizes)));
-    }
-    let check = b"C\x05\0\0\0abcde".to_vec();
-    for end in 1..check.len() {
-        all.push((format!("a check broken off at byte {end}"), check[..end].to_vec()));
     }
     let whole = cycle([3; 5]);
     for end in 1..whole.len() {
@@ -78,9 +94,13 @@ fn breaches() -> Vec<(String, Vec<u8>)> {
 
 /// Buffers that are as long as there is room for.
 fn fitting(program: &[String]) -> Result<(), String> {
-    let mut input = [b"C".to_vec(), 131_072u32.to_le_bytes().to_vec(), vec![0; 131_072]].concat();
+    let mut input = Vec::new();
+    for letter in [b'C', b'L'] {
+        input.extend(front(letter, FILE_ROOM));
+        input.resize(input.len() + FILE_ROOM, 0);
+    }
     input.extend(cycle(ROOM));
-    let mut expected = vec![1, 1, 0, 0, 0, 0];
+    let mut expected = vec![1, 22, 1, 0, 0, 0, 0];
     expected.resize(expected.len() + 3 * 8_192, 0);
     let (printed, said, ended) = pipe::run(program, &input).map_err(|error| format!("{}: {error}", program[0]))?;
     if printed != expected || !said.is_empty() || !ended {

@@ -32,7 +32,7 @@ pub fn compare(count: u64, seed: u64, alone: bool, program: &[String]) -> Result
             let expected = expected(&requests).map_err(|why| format!("{at}: {why}"))?;
             let mut answers = [Vec::new(), Vec::new()];
             for ((server, request), answer) in servers.iter_mut().zip(&requests).zip(&mut answers) {
-                *answer = server.ask(&request.bytes(), expected.len());
+                *answer = server.ask(request);
             }
             // A program that is wrong may still write a whole answer with a refusal that there is.
             let whole = answers[0].len() == expected.len() && answers[0][0] <= 12;

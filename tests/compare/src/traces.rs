@@ -3,34 +3,22 @@
 use crate::case::{Case, LARGEST_FILE};
 use crate::cycles::Machine;
 use crate::damage;
-use crate::pipe;
 use crate::project::{accepted, Size};
 use crate::random::Random;
+use crate::texts;
 
 pub fn compare(count: u64, seed: u64, program: &[String]) -> Result<(), String> {
-    println!("seed {seed}, {count} traces, program {}", program.join(" "));
     let mut random = Random::new(seed);
     let mut lines = [0u64; 3];
-    let step = (count / 10).max(1);
-    for number in 1..=count {
+    texts::compare("trace", "case", count, seed, program, || {
         let file = file(&mut random);
         let expected = reference::trace(&file);
-        let (printed, _, ended) = pipe::run(program, &file).map_err(|error| format!("{}: {error}", program[0]))?;
-        if printed != expected.as_bytes() || !ended {
-            let name = format!("disagreement-{seed}-{number}.case");
-            std::fs::write(&name, &file).map_err(|error| format!("{name}: {error}"))?;
-            return Err(format!(
-                "DISAGREEMENT at trace {number} (seed {seed}), ended normally: {ended}; the file is {name}"
-            ));
-        }
         for line in expected.lines() {
             let kind = ["finding", "end", "refused"].iter().position(|word| line.starts_with(word));
             lines[kind.expect("a line of the reference")] += 1;
         }
-        if number % step == 0 {
-            println!("{number} traces, no disagreement");
-        }
-    }
+        Ok((file, expected))
+    })?;
     let [findings, ends, refusals] = lines;
     println!(
         "{count} traces compared, no disagreement (seed {seed}): {findings} findings, {ends} ends, {refusals} refusals"

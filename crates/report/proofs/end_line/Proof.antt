@@ -3,7 +3,7 @@
 use Rattle.wire.proofs.Usual.{needs}
 use Rattle.report.specs.Lines.{endWord, endLine}
 use Rattle.report.proofs.Lines.{end-short}
-use Rattle.report.proofs.Puts.{put-word, _then_, put-last, put-printed}
+use Rattle.report.proofs.Puts.{put-text, _then_, put-last, put-printed}
 use Rattle.report.proofs.end_line.Statement.{statement}
 use Rattle.report.proofs.end_line.Tie as tie
 
@@ -17,7 +17,7 @@ returns c =
     let a = word .before .before .before .before .args in
     put-printed
     (end-short (a .cycles) (a .findings) (search needs) (search needs))
-    (put-word endWord (word .put .ensures)
+    (put-text endWord (word .put .ensures)
     then cycles .put-field .ensures .0
     then findings .put-field2 .ensures .0
     then put-last 10 (feed .put-byte .ensures))

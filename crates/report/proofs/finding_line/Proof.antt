@@ -3,7 +3,7 @@
 use Rattle.wire.proofs.Usual.{_≤_, needs, length}
 use Rattle.report.specs.Lines.{findingWord, findingLine}
 use Rattle.report.proofs.Lines.{finding-short}
-use Rattle.report.proofs.Puts.{put-word, _then_, put-last, put-printed}
+use Rattle.report.proofs.Puts.{put-text, _then_, put-last, put-printed}
 use Rattle.report.proofs.finding_line.Statement.{statement}
 use Rattle.report.proofs.finding_line.Tie as tie
 
@@ -27,7 +27,7 @@ returns c =
     let cycle = block .before .before .before .before in
     let word = cycle .before .before .before .before in
     put-printed (short (word .before .before .before .before))
-    (put-word findingWord (word .put .ensures)
+    (put-text findingWord (word .put .ensures)
     then cycle .put-field .ensures .0
     then block .put-field2 .ensures .0
     then text .put-field3 .ensures .0

@@ -2,7 +2,7 @@
 use Rattle.wire.proofs.Usual.{needs}
 use Rattle.report.specs.Lines.{refusedWord, refusedLine}
 use Rattle.report.proofs.Lines.{refused-short}
-use Rattle.report.proofs.Puts.{put-word, _then_, put-last, put-printed}
+use Rattle.report.proofs.Puts.{put-text, _then_, put-last, put-printed}
 use Rattle.report.proofs.refused_line.Statement.{statement}
 use Rattle.report.proofs.refused_line.Tie as tie
 
@@ -15,7 +15,7 @@ returns c =
     let a = word .before .before .before .before .args in
     put-printed
     (refused-short (a .number) (search needs))
-    (put-word refusedWord (word .put .ensures)
+    (put-text refusedWord (word .put .ensures)
     then number .put-field .ensures .0
     then put-last 10 (feed .put-byte .ensures))
 

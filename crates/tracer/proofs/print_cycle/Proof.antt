@@ -1,7 +1,7 @@
 -- `tracer::print_cycle` meets its contract: the buffer holds the cycle's lines whole, and these are written.
 use Rattle.wire.proofs.Usual.{sym, subst, arith, needs, length-take-le, now}
 use Rattle.tracer.specs.Text.{Told}
-use Rattle.tracer.proofs.Lining.{put-whole}
+use Rattle.report.proofs.Parts.{put-whole}
 use Rattle.tracer.proofs.print_cycle.Statement.{statement}
 use Rattle.tracer.proofs.print_cycle.Tie as tie
 

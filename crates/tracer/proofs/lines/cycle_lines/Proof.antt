@@ -3,7 +3,8 @@
 use Rattle.wire.proofs.Usual.{_≡_, refl, _∙_, subst, ℕ, _+_, _-_, _*_, _≤_, arith, needs, length, now}
 use Rattle.report.specs.Lines.{Put, lineMost}
 use Rattle.tracer.specs.Text.{linesOf}
-use Rattle.tracer.proofs.Lining.{lines-none, line-more, part-long}
+use Rattle.report.proofs.Parts.{part-long}
+use Rattle.tracer.proofs.Lining.{lines-none, line-more}
 use Rattle.tracer.proofs.lines.cycle_lines.Statement.{statement}
 use Rattle.tracer.proofs.lines.cycle_lines.Tie as tie
 

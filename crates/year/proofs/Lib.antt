@@ -1,0 +1,9 @@
+pub mod Filling
+pub mod Counting
+pub mod Sums
+pub mod Rates
+pub mod Nearness
+pub mod Bending
+pub mod Taken
+pub mod Built
+pub mod WithoutScript
