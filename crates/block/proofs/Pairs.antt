@@ -4,30 +4,30 @@
 -- Assumes nothing.
 use Rattle.wire.proofs.Usual.{◌≡◌, refl, Bool, true, false, not, ◌&&◌, ◌||◌, ℕ, ◌+◌}
 use Rattle.block.specs.State.{only_if}
-use Rattle.block.specs.Twohand.{isFull, differs}
+use Rattle.block.specs.Twohand.{is_full, differs}
 
 -- two bits
 abbrev pub pair_of : Bool → Bool → ℕ
 pair_of x y = only_if x 1 + only_if y 2
 
 pub record PairTests (a b v w : Bool) : Type 0 where
-  pub full : isFull (pair_of a b) (pair_of (a && v) (b && w)) ≡ (not a || v) && (not b || w)
+  pub full : is_full (pair_of a b) (pair_of (a && v) (b && w)) ≡ (not a || v) && (not b || w)
   pub differing : differs (pair_of a b) (pair_of (a && v) (b && w)) ≡ a && b && ((v && not w) || (not v && w))
 
-pub pair-tests : (a b v w : Bool) → PairTests a b v w
-pair-tests true true true true = record { full = refl; differing = refl }
-pair-tests true true true false = record { full = refl; differing = refl }
-pair-tests true true false true = record { full = refl; differing = refl }
-pair-tests true true false false = record { full = refl; differing = refl }
-pair-tests true false true true = record { full = refl; differing = refl }
-pair-tests true false true false = record { full = refl; differing = refl }
-pair-tests true false false true = record { full = refl; differing = refl }
-pair-tests true false false false = record { full = refl; differing = refl }
-pair-tests false true true true = record { full = refl; differing = refl }
-pair-tests false true true false = record { full = refl; differing = refl }
-pair-tests false true false true = record { full = refl; differing = refl }
-pair-tests false true false false = record { full = refl; differing = refl }
-pair-tests false false true true = record { full = refl; differing = refl }
-pair-tests false false true false = record { full = refl; differing = refl }
-pair-tests false false false true = record { full = refl; differing = refl }
-pair-tests false false false false = record { full = refl; differing = refl }
+pub pair_tests : (a b v w : Bool) → PairTests a b v w
+pair_tests true true true true = record { full = refl; differing = refl }
+pair_tests true true true false = record { full = refl; differing = refl }
+pair_tests true true false true = record { full = refl; differing = refl }
+pair_tests true true false false = record { full = refl; differing = refl }
+pair_tests true false true true = record { full = refl; differing = refl }
+pair_tests true false true false = record { full = refl; differing = refl }
+pair_tests true false false true = record { full = refl; differing = refl }
+pair_tests true false false false = record { full = refl; differing = refl }
+pair_tests false true true true = record { full = refl; differing = refl }
+pair_tests false true true false = record { full = refl; differing = refl }
+pair_tests false true false true = record { full = refl; differing = refl }
+pair_tests false true false false = record { full = refl; differing = refl }
+pair_tests false false true true = record { full = refl; differing = refl }
+pair_tests false false true false = record { full = refl; differing = refl }
+pair_tests false false false true = record { full = refl; differing = refl }
+pair_tests false false false false = record { full = refl; differing = refl }

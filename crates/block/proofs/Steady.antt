@@ -3,14 +3,14 @@
 -- Assumes nothing.
 use Rattle.wire.proofs.Usual.{◌≡◌, refl, Bool, true, false, cond, ◌&&◌, List, ℕ, ◌+◌, ◌%◌, arith, eqb, ltb}
 use borrow.Author.Tests.{le-ltb}
-use Rattle.kind.specs.Parameters.{activeMask, limitsOf}
+use Rattle.kind.specs.Parameters.{active_mask, limits_of}
 use Rattle.kind.specs.declared.Limits.{Limits}
-use Rattle.block.specs.State.{only_if, isWaiting, plain, encode, entersFrom}
-use Rattle.block.specs.Twohand.{handsOf, pairTime, timeSince, timesOf, next_code, errorBits, moved, judged}
-use Rattle.block.specs.Twohand.{twohandRun}
+use Rattle.block.specs.State.{only_if, is_waiting, plain, encode, enters_from}
+use Rattle.block.specs.Twohand.{hands_of, pair_time, time_since, times_of, next_code, error_bits, moved, judged}
+use Rattle.block.specs.Twohand.{twohand_run}
 use Rattle.block.specs.Asks.{Even}
-use Rattle.block.proofs.Bits.{or-false}
-use Rattle.block.proofs.TwohandFormed.{next-moves}
+use Rattle.block.proofs.Bits.{or_false}
+use Rattle.block.proofs.TwohandFormed.{next_moves}
 use Rattle.block.specs.declared.BlockState.{BlockState}
 use Rattle.block.specs.declared.Hands.{Hands}
 use Rattle.block.specs.declared.Times.{Times}
@@ -19,46 +19,46 @@ abbrev none : Times
 none = record { first = 0; second = 0; since = 0 }
 
 -- a pair that does not differ has no time
-unpaired : (d stored ms : ℕ) → pairTime d false stored ms ≡ 0
-unfolding pairTime
+unpaired : (d stored ms : ℕ) → pair_time d false stored ms ≡ 0
+unfolding pair_time
 unpaired d stored ms = go (ltb 0 d)
   where
     go : (b : Bool) → cond (b && false) (cond (eqb stored 0) 1 (stored + ms)) 0 ≡ 0
     go true = refl
     go false = refl
 
-unwaited : (t code entry ms : ℕ) → isWaiting code ≡ false → timeSince t code entry ms ≡ 0
-unfolding timeSince
+unwaited : (t code entry ms : ℕ) → is_waiting code ≡ false → time_since t code entry ms ≡ 0
+unfolding time_since
 unwaited t code entry ms w = rw w
 
-zero-either : (b : Bool) → only_if b 0 % 65536 ≡ 0
-zero-either true = refl
-zero-either false = refl
+zero_either : (b : Bool) → only_if b 0 % 65536 ≡ 0
+zero_either true = refl
+zero_either false = refl
 
-judged-plain : (l : Limits) (code : ℕ) (h : Hands) → isWaiting code ≡ false →
+judged-plain : (l : Limits) (code : ℕ) (h : Hands) → is_waiting code ≡ false →
     judged l none code h ≡ plain (next_code code h)
-unfolding judged errorBits moved
+unfolding judged error_bits moved
 judged-plain l code h w =
-    let e = or-false (eqb code 11) (eqb code 12) w in
+    let e = or_false (eqb code 11) (eqb code 12) w in
     rw (
       le-ltb (l.first + 1) 0 (omega arith),
       le-ltb (l.second + 1) 0 (omega arith),
       le-ltb l.between 0 (omega arith),
       e.0,
       e.1,
-      zero-either (eqb (next_code code h) code),
+      zero_either (eqb (next_code code h) code),
     )
 
-module _ (P : List ℕ) (ms x : ℕ) (old : BlockState) (w : isWaiting old.code ≡ false)
-    (e : Even (activeMask P) x) where
-  times_none : timesOf (limitsOf P) (activeMask P) ms x old ≡ none
+module _ (P : List ℕ) (ms x : ℕ) (old : BlockState) (w : is_waiting old.code ≡ false)
+    (e : Even (active_mask P) x) where
+  times_none : times_of (limits_of P) (active_mask P) ms x old ≡ none
   times_none = rw (e.first, e.second, unpaired, unpaired, unwaited) refl
 
-  pub steady : twohandRun P ms x old ≡ plain (next_code old.code (handsOf (activeMask P) x))
-  unfolding twohandRun
-  steady = rw times_none (judged-plain (limitsOf P) old.code (handsOf (activeMask P) x) w)
+  pub steady : twohand_run P ms x old ≡ plain (next_code old.code (hands_of (active_mask P) x))
+  unfolding twohand_run
+  steady = rw times_none (judged-plain (limits_of P) old.code (hands_of (active_mask P) x) w)
 
 -- it does not enter ERROR
-pub moves-on : (s : List ℕ) (code : ℕ) (h : Hands) → entersFrom s (encode (plain (next_code code h))) ≡ false
-unfolding entersFrom encode
-moves-on s code h = rw (next-moves code h).errs-not
+pub moves_on : (s : List ℕ) (code : ℕ) (h : Hands) → enters_from s (encode (plain (next_code code h))) ≡ false
+unfolding enters_from encode
+moves_on s code h = rw (next_moves code h).errs-not

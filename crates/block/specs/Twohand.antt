@@ -1,9 +1,9 @@
 -- TWOHAND in phase RUN, and whether its fault is present. 01, "TWOHAND.". x is the effective mask (Inputs.antt), l the
 -- limits D1, D2 and T, ms the elapsed time.
 use Rattle.std.specs.Prelude.{ℕ, ◌+◌, ◌/◌, ◌%◌, Bool, not, cond, ◌&&◌, ◌||◌, List, eqb, ltb}
-use Rattle.kind.specs.Parameters.{activeMask, limitsOf}
+use Rattle.kind.specs.Parameters.{active_mask, limits_of}
 use Rattle.kind.specs.declared.Limits.{Limits}
-use Rattle.block.specs.State.{only_if, RUN, SAFE, BUTTON1, BUTTON2, RELEASE, isWaiting, inError}
+use Rattle.block.specs.State.{only_if, RUN, SAFE, BUTTON1, BUTTON2, RELEASE, is_waiting, in_error}
 use Rattle.block.specs.declared.BlockState.{BlockState}
 use Rattle.block.specs.declared.Hands.{Hands}
 use Rattle.block.specs.declared.Times.{Times}
@@ -11,26 +11,26 @@ use Rattle.block.specs.declared.Times.{Times}
 -- ---- the pairs
 
 -- 01, "The case file": pairs 0,1 and 2,3, of a mask of four bits
-abbrev pub firstPair : ℕ → ℕ
-firstPair m = m % 4
+abbrev pub first_pair : ℕ → ℕ
+first_pair m = m % 4
 
-abbrev pub secondPair : ℕ → ℕ
-secondPair m = m / 4
+abbrev pub second_pair : ℕ → ℕ
+second_pair m = m / 4
 
 -- 01, "TWOHAND.": a pair is full when all its active inputs are true. Inactive bits of the effective mask are 0, so its
 -- bits are then the active ones.
-abbrev pub isFull : ℕ → ℕ → Bool
-isFull active pair = eqb pair active
+abbrev pub is_full : ℕ → ℕ → Bool
+is_full active pair = eqb pair active
 
 -- 01, "TWOHAND.": the two values of a pair differ; a pair with one active input never does
 abbrev pub differs : ℕ → ℕ → Bool
 differs active pair = eqb active 3 && not (eqb (pair % 2) (pair / 2))
 
 -- 01, "TWOHAND.": whether each pair is full, and whether everything is clear
-abbrev pub handsOf : ℕ → ℕ → Hands
-handsOf active x = record {
-  full1 = isFull (firstPair active) (firstPair x);
-  full2 = isFull (secondPair active) (secondPair x);
+abbrev pub hands_of : ℕ → ℕ → Hands
+hands_of active x = record {
+  full1 = is_full (first_pair active) (first_pair x);
+  full2 = is_full (second_pair active) (second_pair x);
   clear = eqb x 0;
 }
 
@@ -38,39 +38,39 @@ handsOf active x = record {
 
 -- 01, "Block state": a pair's stored time, 0 if agreeing or not counted, else 1 + ms; "TWOHAND.": the first differing
 -- cycle counts 0, each later one adds its elapsed time
-unfoldable pub pairTime : ℕ → Bool → ℕ → ℕ → ℕ
-pairTime d differ stored ms = cond (ltb 0 d && differ) (cond (eqb stored 0) 1 (stored + ms)) 0
+unfoldable pub pair_time : ℕ → Bool → ℕ → ℕ → ℕ
+pair_time d differ stored ms = cond (ltb 0 d && differ) (cond (eqb stored 0) 1 (stored + ms)) 0
 
 -- 01, "TWOHAND.", bit 2: the time since entering 11 or 12, entry counting 0; where T is 0 that time stays 0
-unfoldable pub timeSince : ℕ → ℕ → ℕ → ℕ → ℕ
-timeSince t code entry ms = cond (isWaiting code && ltb 0 t) (entry + ms) 0
+unfoldable pub time_since : ℕ → ℕ → ℕ → ℕ → ℕ
+time_since t code entry ms = cond (is_waiting code && ltb 0 t) (entry + ms) 0
 
 -- the three times with this cycle's
-abbrev pub timesOf : Limits → ℕ → ℕ → ℕ → BlockState → Times
-timesOf l active ms x old = record {
-  first = pairTime l.first (differs (firstPair active) (firstPair x)) old.first ms;
-  second = pairTime l.second (differs (secondPair active) (secondPair x)) old.second ms;
-  since = timeSince l.between old.code old.entry ms;
+abbrev pub times_of : Limits → ℕ → ℕ → ℕ → BlockState → Times
+times_of l active ms x old = record {
+  first = pair_time l.first (differs (first_pair active) (first_pair x)) old.first ms;
+  second = pair_time l.second (differs (second_pair active) (second_pair x)) old.second ms;
+  since = time_since l.between old.code old.entry ms;
 }
 
 -- ---- errors and transitions
 
 -- 01, "TWOHAND.", bit 0 / 1: differed for more than D ms; the stored time is one more than the ms
-abbrev pub isOverdue : ℕ → ℕ → Bool
-isOverdue d time = ltb (d + 1) time
+abbrev pub is_overdue : ℕ → ℕ → Bool
+is_overdue d time = ltb (d + 1) time
 
 -- 01, "TWOHAND.", bit 6: in 11 the second pair is full and the first is not, or in 12 the mirror
-abbrev pub changedOver : ℕ → Hands → Bool
-changedOver code h =
+abbrev pub changed_over : ℕ → Hands → Bool
+changed_over code h =
     (eqb code BUTTON1 && h.full2 && not h.full1) || (eqb code BUTTON2 && h.full1 && not h.full2)
 
 -- 01, "TWOHAND.": errors come before transitions, all that apply are set together: bits 0, 1, 2 and 6
-unfoldable pub errorBits : Limits → Times → ℕ → Hands → ℕ
-errorBits l t code h =
-    only_if (isOverdue l.first t.first) 1
-    + only_if (isOverdue l.second t.second) 2
+unfoldable pub error_bits : Limits → Times → ℕ → Hands → ℕ
+error_bits l t code h =
+    only_if (is_overdue l.first t.first) 1
+    + only_if (is_overdue l.second t.second) 2
     + only_if (ltb l.between t.since) 4
-    + only_if (changedOver code h) 64
+    + only_if (changed_over code h) 64
 
 -- 01, "TWOHAND.": the transitions. From 3: first pair full to 11 (also if both are full), else second full to 12,
 -- else stay. From 11 or 12: both full to 1, one full stays. From 1: all true stays, else 13. From 2, 5 and 13, and
@@ -79,7 +79,7 @@ errorBits l t code h =
 unfoldable pub next_code : ℕ → Hands → ℕ
 next_code code h =
     cond (eqb code SAFE) (cond h.full1 BUTTON1 (cond h.full2 BUTTON2 SAFE))
-    (cond (isWaiting code && (h.full1 || h.full2)) (cond (h.full1 && h.full2) RUN code)
+    (cond (is_waiting code && (h.full1 || h.full2)) (cond (h.full1 && h.full2) RUN code)
     (cond (eqb code RUN) (cond (h.full1 && h.full2) RUN RELEASE)
     (cond h.clear SAFE RELEASE)))
 
@@ -96,21 +96,21 @@ moved code next t = record {
 }
 
 -- 01, "TWOHAND.": after an error all times are 0
-abbrev pub orError : ℕ → BlockState → BlockState
-orError d c = cond (eqb d 0) c (inError d)
+abbrev pub or_error : ℕ → BlockState → BlockState
+or_error d c = cond (eqb d 0) c (in_error d)
 
 unfoldable pub judged : Limits → Times → ℕ → Hands → BlockState
-judged l t code h = orError (errorBits l t code h) (moved code (next_code code h) t)
+judged l t code h = or_error (error_bits l t code h) (moved code (next_code code h) t)
 
 -- 01, "TWOHAND.": one cycle in phase RUN
-unfoldable pub twohandRun : List ℕ → ℕ → ℕ → BlockState → BlockState
-twohandRun P ms x old =
-    judged (limitsOf P) (timesOf (limitsOf P) (activeMask P) ms x old) old.code (handsOf (activeMask P) x)
+unfoldable pub twohand_run : List ℕ → ℕ → ℕ → BlockState → BlockState
+twohand_run P ms x old =
+    judged (limits_of P) (times_of (limits_of P) (active_mask P) ms x old) old.code (hands_of (active_mask P) x)
 
 -- 01, "TWOHAND.": fault present: bit 0 / 1, that pair still differs; bit 2 or 6, not everything clear; with several
 -- bits, any of these
-unfoldable pub twohandFault : List ℕ → ℕ → ℕ → Bool
-twohandFault P d x =
-    (eqb (d % 2) 1 && differs (firstPair (activeMask P)) (firstPair x))
-    || (eqb (d / 2 % 2) 1 && differs (secondPair (activeMask P)) (secondPair x))
+unfoldable pub twohand_fault : List ℕ → ℕ → ℕ → Bool
+twohand_fault P d x =
+    (eqb (d % 2) 1 && differs (first_pair (active_mask P)) (first_pair x))
+    || (eqb (d / 2 % 2) 1 && differs (second_pair (active_mask P)) (second_pair x))
     || ((eqb (d / 4 % 2) 1 || eqb (d / 64 % 2) 1) && not (eqb x 0))

@@ -1,10 +1,10 @@
 // ADD, SUB, MUL and DIV: the result of the two inputs x and y, and the step.
 ghost use Rattle.std.specs.Prelude.{◌≡◌, not, cond, eqb};
 ghost use Rattle.std.proofs.lemmas.List.Edits.{sets};
-ghost use Rattle.block.specs.State.{RESET, phaseRun, plain, inError, running, diagnosisOf, isError, encode};
-ghost use Rattle.block.specs.State.{entersFrom};
+ghost use Rattle.block.specs.State.{RESET, phase_run, plain, in_error, running, diagnosis_of, is_error, encode};
+ghost use Rattle.block.specs.State.{enters_from};
 ghost use Rattle.block.specs.Arithmetic.{result_of};
-ghost use Rattle.block.specs.Step.{arithmeticBytes};
+ghost use Rattle.block.specs.Step.{arithmetic_bytes};
 
 use crate::state::{diagnosis_of, in_error, is_error, keep, plain, running};
 use crate::{PHASE_RUN, RESET};
@@ -31,7 +31,7 @@ fn result_of(kind: u8, p: &[u8], x: u32, y: u32) -> numbers::Outcome
 // The output holds the result: RUN with it in phase RUN, else the fault is gone. It does not enter ERROR.
 fn holds(phase: u8, w: u32, s: &mut [u8])
     ensures { s.new ≡ sets s.old 0
-        (encode (cond (eqb phase phaseRun) (running w) (plain RESET))) }
+        (encode (cond (eqb phase phase_run) (running w) (plain RESET))) }
 {
     if phase == PHASE_RUN {
         keep(s, running(w));
@@ -43,8 +43,8 @@ fn holds(phase: u8, w: u32, s: &mut [u8])
 // The output does not: ERROR with this diagnosis in phase RUN, else with the one that it has.
 fn fails(phase: u8, diagnosis: u16, s: &mut [u8]) -> bool
     ensures left { s.new ≡ sets s.old 0
-        (encode (cond (eqb phase phaseRun) (inError diagnosis) (inError (diagnosisOf s.old)))) }
-    ensures enters { result ≡ not (isError s.old) }
+        (encode (cond (eqb phase phase_run) (in_error diagnosis) (in_error (diagnosis_of s.old)))) }
+    ensures enters { result ≡ not (is_error s.old) }
 {
     let was = is_error(s);
     if phase == PHASE_RUN {
@@ -58,9 +58,9 @@ fn fails(phase: u8, diagnosis: u16, s: &mut [u8]) -> bool
 // The step of an arithmetic block that asks, in place; whether it enters ERROR.
 pub fn arithmetic_step(kind: u8, p: &[u8], phase: u8, x: u32, y: u32, s: &mut [u8]) -> bool
     ensures left { s.new ≡ sets s.old 0
-        (arithmeticBytes kind p.now phase x y s.old) }
-    ensures enters { result ≡ entersFrom s.old
-        (arithmeticBytes kind p.now phase x y s.old) }
+        (arithmetic_bytes kind p.now phase x y s.old) }
+    ensures enters { result ≡ enters_from s.old
+        (arithmetic_bytes kind p.now phase x y s.old) }
 {
     let o = result_of(kind, p, x, y);
     match o {

@@ -1,14 +1,14 @@
 // What a finding says of a block that enters ERROR.
 ghost use Rattle.std.specs.Prelude.{◌≡◌};
-ghost use Rattle.block.specs.Finding.{textId, firstNamed, secondNamed, findingBytes, findingOf, findingIn};
-ghost use Rattle.block.specs.Finding.{isFinding};
+ghost use Rattle.block.specs.Finding.{text_id, first_named, second_named, finding_bytes, finding_of, finding_in};
+ghost use Rattle.block.specs.Finding.{is_finding};
 
 use crate::state::diagnosis_of;
 use crate::{FINDING_SIZE, FindingRecord};
 use kind::Family;
 
 fn text_id(family: Family, diagnosis: u16) -> u16
-    ensures { result ≡ textId family diagnosis }
+    ensures { result ≡ text_id family diagnosis }
 {
     match family {
         Family::Decouple => 0,
@@ -20,7 +20,7 @@ fn text_id(family: Family, diagnosis: u16) -> u16
 
 // The first input that a finding names, of a block that read x and y, and the second.
 fn first_named(family: Family, x: u32, y: u32) -> u32
-    ensures { result ≡ firstNamed family x y }
+    ensures { result ≡ first_named family x y }
 {
     match family {
         Family::Decouple => x,
@@ -31,7 +31,7 @@ fn first_named(family: Family, x: u32, y: u32) -> u32
 }
 
 fn second_named(family: Family, x: u32, y: u32) -> u32
-    ensures { result ≡ secondNamed family x y }
+    ensures { result ≡ second_named family x y }
 {
     match family {
         Family::Decouple => 0,
@@ -43,7 +43,7 @@ fn second_named(family: Family, x: u32, y: u32) -> u32
 
 // The bytes of a finding.
 fn finding_bytes(f: FindingRecord) -> [u8; FINDING_SIZE]
-    ensures { result ≡ findingBytes f }
+    ensures { result ≡ finding_bytes f }
 {
     [
         f.block,
@@ -67,7 +67,7 @@ fn finding_bytes(f: FindingRecord) -> [u8; FINDING_SIZE]
 
 // The finding of the block with this number, group and kind that read x and y, and whose bytes after the step are s.
 pub fn finding(number: u8, group: u8, kind: u8, x: u32, y: u32, s: &[u8]) -> [u8; FINDING_SIZE]
-    ensures { result ≡ findingOf number group kind x y s.now }
+    ensures { result ≡ finding_of number group kind x y s.now }
 {
     let family = kind::family_of(kind);
     let diagnosis = diagnosis_of(s);
@@ -83,14 +83,14 @@ pub fn finding(number: u8, group: u8, kind: u8, x: u32, y: u32, s: &[u8]) -> [u8
 
 // Whether these bytes hold a finding.
 pub fn is_finding(f: &[u8]) -> bool
-    ensures { result ≡ isFinding f.now }
+    ensures { result ≡ is_finding f.now }
 {
     !(wire::read16(f, 4) == 0)
 }
 
 // What the bytes of a finding say.
 pub fn read_finding(f: &[u8]) -> FindingRecord
-    ensures { result ≡ findingIn f.now }
+    ensures { result ≡ finding_in f.now }
 {
     FindingRecord {
         block: wire::byte(f, 0),

@@ -1,15 +1,15 @@
 // Which bytes of a block are well formed.
 ghost use Rattle.std.specs.Prelude.{◌≡◌};
-ghost use Rattle.block.specs.State.{isCounting};
-ghost use Rattle.block.specs.Formed.{untimed, decoupleOk, arithmeticDiagnosis, arithmeticOk, twohandBits};
-ghost use Rattle.block.specs.Formed.{twohandDiagnosis, pairTimeOk, entryOk, twohandOk, formed, wellFormed};
+ghost use Rattle.block.specs.State.{is_counting};
+ghost use Rattle.block.specs.Formed.{untimed, decouple_ok, arithmetic_diagnosis, arithmetic_ok, twohand_bits};
+ghost use Rattle.block.specs.Formed.{twohand_diagnosis, pair_time_ok, entry_ok, twohand_ok, formed, well_formed};
 
 use crate::state::decoded;
 use crate::{BUTTON1, BUTTON2, BlockState, ERROR, RELEASE, RESET, RUN, SAFE, STOP};
 use kind::{Family, Limits};
 
 fn is_counting(code: u8) -> bool
-    ensures { result ≡ isCounting code }
+    ensures { result ≡ is_counting code }
 {
     (code == RUN) | (code == SAFE) | ((code == BUTTON1) | (code == BUTTON2)) | (code == RELEASE)
 }
@@ -21,7 +21,7 @@ fn untimed(c: BlockState) -> bool
 }
 
 fn decouple_ok(c: BlockState) -> bool
-    ensures { result ≡ decoupleOk c }
+    ensures { result ≡ decouple_ok c }
 {
     let code = c.code;
     let diagnosis = c.diagnosis;
@@ -34,7 +34,7 @@ fn decouple_ok(c: BlockState) -> bool
 }
 
 fn arithmetic_diagnosis(code: u8, d: u16) -> bool
-    ensures { result ≡ arithmeticDiagnosis code d }
+    ensures { result ≡ arithmetic_diagnosis code d }
 {
     if code == ERROR {
         return (d == 1) | (d == 2);
@@ -44,7 +44,7 @@ fn arithmetic_diagnosis(code: u8, d: u16) -> bool
 
 // t is the output's type.
 fn arithmetic_ok(t: u8, c: BlockState) -> bool
-    ensures { result ≡ arithmeticOk t c }
+    ensures { result ≡ arithmetic_ok t c }
 {
     let code = c.code;
     let output = c.output;
@@ -57,7 +57,7 @@ fn arithmetic_ok(t: u8, c: BlockState) -> bool
 
 // The diagnosis of a TWOHAND in ERROR.
 fn twohand_bits(l: Limits, d: u16) -> bool
-    ensures { result ≡ twohandBits l d }
+    ensures { result ≡ twohand_bits l d }
 {
     !(d == 0)
         & (d < 128)
@@ -68,7 +68,7 @@ fn twohand_bits(l: Limits, d: u16) -> bool
 }
 
 fn twohand_diagnosis(l: Limits, code: u8, d: u16) -> bool
-    ensures { result ≡ twohandDiagnosis l code d }
+    ensures { result ≡ twohand_diagnosis l code d }
 {
     if code == ERROR {
         return twohand_bits(l, d);
@@ -77,19 +77,19 @@ fn twohand_diagnosis(l: Limits, code: u8, d: u16) -> bool
 }
 
 fn pair_time_ok(d: u16, code: u8, time: u16) -> bool
-    ensures { result ≡ pairTimeOk d code time }
+    ensures { result ≡ pair_time_ok d code time }
 {
     ((time as u32) <= (d as u32) + 1) & ((time == 0) | ((0 < d) & is_counting(code)))
 }
 
 fn entry_ok(t: u16, code: u8, time: u16) -> bool
-    ensures { result ≡ entryOk t code time }
+    ensures { result ≡ entry_ok t code time }
 {
     (time <= t) & ((time == 0) | ((code == BUTTON1) | (code == BUTTON2)))
 }
 
 fn twohand_ok(l: Limits, c: BlockState) -> bool
-    ensures { result ≡ twohandOk l c }
+    ensures { result ≡ twohand_ok l c }
 {
     let code = c.code;
     let output = c.output;
@@ -114,7 +114,7 @@ fn formed(family: Family, p: &[u8], c: BlockState) -> bool
 
 // Whether a block's bytes are well formed.
 pub fn well_formed(kind: u8, p: &[u8], s: &[u8]) -> bool
-    ensures { result ≡ wellFormed kind p.now s.now }
+    ensures { result ≡ well_formed kind p.now s.now }
 {
     (wire::byte(s, 1) == 0)
         & (wire::byte(s, 10) == 0)

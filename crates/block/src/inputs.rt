@@ -1,6 +1,6 @@
 // What a block reads: the bits of its input ports, and TWOHAND's effective mask.
 ghost use Rattle.std.specs.Prelude.{◌≡◌, ◌+◌, ◌*◌, ◌%◌};
-ghost use Rattle.block.specs.Inputs.{effectiveMask};
+ghost use Rattle.block.specs.Inputs.{effective_mask};
 
 // Bits, with the bit of the word of one more port below them. Nothing is cut for fewer than 32 ports.
 pub fn bit_below(word: u32, bits: u32) -> u32
@@ -17,7 +17,7 @@ pub fn wide(x: u8) -> u32
 
 // TWOHAND's effective mask, from the bits of its four raw inputs.
 pub fn effective(p: &[u8], raw: u32) -> u32
-    ensures { result ≡ effectiveMask p.now raw }
+    ensures { result ≡ effective_mask p.now raw }
 {
     let active = wide(kind::active_mask(p));
     let opened = wide(kind::open_mask(p));

@@ -1,7 +1,7 @@
 // What a block's output ports show.
 ghost use Rattle.std.specs.Prelude.{◌≡◌};
 ghost use Rattle.block.specs.State.{only_if};
-ghost use Rattle.block.specs.Shows.{showsOf, shows};
+ghost use Rattle.block.specs.Shows.{shows_of, shows};
 ghost use Rattle.kind.specs.declared.Family.TheVariants.{Twohand, Arithmetic};
 
 use crate::RUN;
@@ -16,7 +16,7 @@ fn one_if(t: bool) -> u32
 
 // TWOHAND's Error and TwoHandOut.
 fn twohand_shows(port: u8, s: &[u8]) -> u32
-    ensures { result ≡ showsOf Twohand port s.now }
+    ensures { result ≡ shows_of Twohand port s.now }
 {
     if port == 0 {
         return one_if(is_error(s));
@@ -26,7 +26,7 @@ fn twohand_shows(port: u8, s: &[u8]) -> u32
 
 // Arithmetic's Error and AnalogOut.
 fn arithmetic_shows(port: u8, s: &[u8]) -> u32
-    ensures { result ≡ showsOf Arithmetic port s.now }
+    ensures { result ≡ shows_of Arithmetic port s.now }
 {
     if port == 0 {
         return one_if(is_error(s));
@@ -35,7 +35,7 @@ fn arithmetic_shows(port: u8, s: &[u8]) -> u32
 }
 
 fn family_shows(family: Family, port: u8, s: &[u8]) -> u32
-    ensures { result ≡ showsOf family port s.now }
+    ensures { result ≡ shows_of family port s.now }
 {
     match family {
         Family::Decouple => (wire::read32(s, 12) >> (port % 8)) % 2,

@@ -1,8 +1,8 @@
 // A block's state and its bytes.
 ghost use Rattle.std.specs.Prelude.{◌≡◌};
 ghost use Rattle.std.proofs.lemmas.List.Edits.{sets};
-ghost use Rattle.block.specs.State.{decode, encode, plain, inError, running, freshBytes, isError};
-ghost use Rattle.block.specs.State.{code_of, diagnosisOf, entersCode};
+ghost use Rattle.block.specs.State.{decode, encode, plain, in_error, running, fresh_bytes, is_error};
+ghost use Rattle.block.specs.State.{code_of, diagnosis_of, enters_code};
 
 use crate::{BlockState, ERROR, RUN, STATE_SIZE, STOP};
 
@@ -21,7 +21,7 @@ pub fn plain(code: u8) -> BlockState
 }
 
 pub fn in_error(diagnosis: u16) -> BlockState
-    ensures { result ≡ inError diagnosis }
+    ensures { result ≡ in_error diagnosis }
 {
     BlockState {
         code: ERROR,
@@ -111,14 +111,14 @@ pub fn keep(s: &mut [u8], c: BlockState)
 
 // The bytes before the first cycle.
 pub fn fresh() -> [u8; STATE_SIZE]
-    ensures { result ≡ freshBytes }
+    ensures { result ≡ fresh_bytes }
 {
     encoded(plain(STOP))
 }
 
 // The block goes to STOP, as one of no kind would.
 pub fn stop(s: &mut [u8])
-    ensures { s.new ≡ sets s.old 0 freshBytes }
+    ensures { s.new ≡ sets s.old 0 fresh_bytes }
 {
     keep(s, plain(STOP));
 }
@@ -131,21 +131,21 @@ pub fn code_of(s: &[u8]) -> u8
 }
 
 pub fn diagnosis_of(s: &[u8]) -> u16
-    ensures { result ≡ diagnosisOf s.now }
+    ensures { result ≡ diagnosis_of s.now }
 {
     wire::read16(s, 2)
 }
 
 // Whether the block is in ERROR.
 pub fn is_error(s: &[u8]) -> bool
-    ensures { result ≡ isError s.now }
+    ensures { result ≡ is_error s.now }
 {
     wire::byte(s, 0) == ERROR
 }
 
 // Whether a block enters ERROR, from its codes.
 pub fn entered(old: u8, new: u8) -> bool
-    ensures { result ≡ entersCode old new }
+    ensures { result ≡ enters_code old new }
 {
     (new == ERROR) & !(old == ERROR)
 }

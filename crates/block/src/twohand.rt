@@ -1,11 +1,11 @@
 // TWOHAND: one cycle in phase RUN, and whether its fault is present. x is the effective mask.
 ghost use Rattle.std.specs.Prelude.{◌≡◌, true, ◌≤◌};
 ghost use Rattle.std.proofs.lemmas.List.Edits.{sets};
-ghost use Rattle.block.specs.State.{only_if, isWaiting, decode, encode, entersFrom};
-ghost use Rattle.block.specs.Twohand.{differs, handsOf, pairTime, timeSince, timesOf, changedOver, next_code};
-ghost use Rattle.block.specs.Twohand.{errorBits, moved, judged, twohandRun, twohandFault};
+ghost use Rattle.block.specs.State.{only_if, is_waiting, decode, encode, enters_from};
+ghost use Rattle.block.specs.Twohand.{differs, hands_of, pair_time, time_since, times_of, changed_over, next_code};
+ghost use Rattle.block.specs.Twohand.{error_bits, moved, judged, twohand_run, twohand_fault};
 ghost use Rattle.block.specs.Asks.{Even};
-ghost use Rattle.block.specs.Step.{twohandBytes};
+ghost use Rattle.block.specs.Step.{twohand_bytes};
 
 use crate::inputs::wide;
 use crate::state::{code_of, decoded, diagnosis_of, entered, in_error, is_error, keep, plain};
@@ -27,7 +27,7 @@ fn differs(active: u32, pair: u32) -> bool
 }
 
 fn hands_of(active: u32, x: u32) -> Hands
-    ensures { result ≡ handsOf active x }
+    ensures { result ≡ hands_of active x }
 {
     Hands {
         full1: x % 4 == active % 4,
@@ -38,7 +38,7 @@ fn hands_of(active: u32, x: u32) -> Hands
 
 // A pair's stored time with this cycle's.
 fn pair_time(d: u16, differ: bool, stored: u16, ms: u16) -> u32
-    ensures { result ≡ pairTime d differ stored ms }
+    ensures { result ≡ pair_time d differ stored ms }
 {
     if (0 < d) & differ {
         if stored == 0 {
@@ -50,14 +50,14 @@ fn pair_time(d: u16, differ: bool, stored: u16, ms: u16) -> u32
 }
 
 fn is_waiting(code: u8) -> bool
-    ensures { result ≡ isWaiting code }
+    ensures { result ≡ is_waiting code }
 {
     (code == BUTTON1) | (code == BUTTON2)
 }
 
 // The time since 11 or 12 was entered, with this cycle's.
 fn time_since(t: u16, code: u8, entry: u16, ms: u16) -> u32
-    ensures { result ≡ timeSince t code entry ms }
+    ensures { result ≡ time_since t code entry ms }
 {
     if ((code == BUTTON1) | (code == BUTTON2)) & (0 < t) {
         return (entry as u32) + (ms as u32);
@@ -66,7 +66,7 @@ fn time_since(t: u16, code: u8, entry: u16, ms: u16) -> u32
 }
 
 fn times_of(l: Limits, active: u32, ms: u16, x: u32, old: BlockState) -> Times
-    ensures { result ≡ timesOf l active ms x old }
+    ensures { result ≡ times_of l active ms x old }
 {
     Times {
         first: pair_time(l.first, differs(active % 4, x % 4), old.first, ms),
@@ -76,7 +76,7 @@ fn times_of(l: Limits, active: u32, ms: u16, x: u32, old: BlockState) -> Times
 }
 
 fn changed_over(code: u8, h: Hands) -> bool
-    ensures { result ≡ changedOver code h }
+    ensures { result ≡ changed_over code h }
 {
     ((code == BUTTON1) & h.full2 & !h.full1) | ((code == BUTTON2) & h.full1 & !h.full2)
 }
@@ -115,7 +115,7 @@ fn next_code(code: u8, h: Hands) -> u8
 
 // All errors that apply.
 fn error_bits(l: Limits, t: Times, code: u8, h: Hands) -> u16
-    ensures { result ≡ errorBits l t code h }
+    ensures { result ≡ error_bits l t code h }
 {
     only_if((l.first as u32) + 1 < t.first, 1)
         + only_if((l.second as u32) + 1 < t.second, 2)
@@ -160,7 +160,7 @@ fn judged(l: Limits, t: Times, code: u8, h: Hands) -> BlockState
 
 // TWOHAND in phase RUN.
 fn twohand_run(p: &[u8], ms: u16, x: u32, old: BlockState) -> BlockState
-    ensures { result ≡ twohandRun p.now ms x old }
+    ensures { result ≡ twohand_run p.now ms x old }
 {
     let active = wide(kind::active_mask(p));
     let l = kind::limits_of(p);
@@ -174,7 +174,7 @@ fn twohand_run(p: &[u8], ms: u16, x: u32, old: BlockState) -> BlockState
 
 // Whether the fault of a TWOHAND in ERROR is present.
 fn twohand_fault(p: &[u8], d: u16, x: u32) -> bool
-    ensures { result ≡ twohandFault p.now d x }
+    ensures { result ≡ twohand_fault p.now d x }
 {
     let active = wide(kind::active_mask(p));
     ((d % 2 == 1) & differs(active % 4, x % 4))
@@ -193,9 +193,9 @@ fn none_differs(active: u32, x: u32) -> bool
 // The step in phase RUN. Where no pair differs and none is waited for, no time is counted and there is no error.
 fn run_step(p: &[u8], ms: u16, x: u32, s: &mut [u8]) -> bool
     ensures left { s.new ≡ sets s.old 0
-        (encode (twohandRun p.now ms x (decode s.old))) }
-    ensures enters { result ≡ entersFrom s.old
-        (encode (twohandRun p.now ms x (decode s.old))) }
+        (encode (twohand_run p.now ms x (decode s.old))) }
+    ensures enters { result ≡ enters_from s.old
+        (encode (twohand_run p.now ms x (decode s.old))) }
 {
     let active = wide(kind::active_mask(p));
     let code = code_of(s);
@@ -212,9 +212,9 @@ fn run_step(p: &[u8], ms: u16, x: u32, s: &mut [u8]) -> bool
 // The step of a TWOHAND that asks, in place; whether it enters ERROR.
 pub fn twohand_step(p: &[u8], phase: u8, ms: u16, x: u32, s: &mut [u8]) -> bool
     ensures left { s.new ≡ sets s.old 0
-        (twohandBytes p.now phase ms x s.old) }
-    ensures enters { result ≡ entersFrom s.old
-        (twohandBytes p.now phase ms x s.old) }
+        (twohand_bytes p.now phase ms x s.old) }
+    ensures enters { result ≡ enters_from s.old
+        (twohand_bytes p.now phase ms x s.old) }
 {
     if phase == PHASE_RUN {
         return run_step(p, ms, x, s);

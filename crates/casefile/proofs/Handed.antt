@@ -2,17 +2,17 @@
 use Rattle.wire.proofs.Usual.{◌≡◌, ap, ◌∙◌, List, ℕ}
 use Rattle.project.specs.Project.{Project}
 use Rattle.casefile.specs.declared.reader.Starts.{Starts}
-use Rattle.casefile.specs.Bodies.{body_g, bodyI, bodyB, bodyO, bodyIn, projectOf, startsOf, stretchOf}
-use Rattle.casefile.proofs.Stretches.{stretch-body}
+use Rattle.casefile.specs.Bodies.{body_g, body_i, body_b, body_o, body_in, project_of, starts_of, stretch_of}
+use Rattle.casefile.proofs.Stretches.{stretch_body}
 
 abbrev pub bodies : List ℕ → List ℕ → List ℕ → List ℕ → Project
 bodies G I B O = record { groups = G; inputs = I; blocks = B; outputs = O }
 
-module _ (F : List ℕ) {S : Starts} (s : S ≡ startsOf F) where
-  pub body_is : (e : ℕ) {X : List ℕ} → X ≡ stretchOf F S e → X ≡ bodyIn F e
-  body_is e x = x ∙ ap (λ (S : Starts). stretchOf F S e) s ∙ stretch-body F e
+module _ (F : List ℕ) {S : Starts} (s : S ≡ starts_of F) where
+  pub body_is : (e : ℕ) {X : List ℕ} → X ≡ stretch_of F S e → X ≡ body_in F e
+  body_is e x = x ∙ ap (λ (S : Starts). stretch_of F S e) s ∙ stretch_body F e
 
-  pub bodies-are : {G I B O : List ℕ} → G ≡ stretchOf F S body_g → I ≡ stretchOf F S bodyI →
-      B ≡ stretchOf F S bodyB → O ≡ stretchOf F S bodyO → bodies G I B O ≡ projectOf F
-  unfolding projectOf
-  bodies-are g n b o = λ i. bodies (body_is body_g g i) (body_is bodyI n i) (body_is bodyB b i) (body_is bodyO o i)
+  pub bodies-are : {G I B O : List ℕ} → G ≡ stretch_of F S body_g → I ≡ stretch_of F S body_i →
+      B ≡ stretch_of F S body_b → O ≡ stretch_of F S body_o → bodies G I B O ≡ project_of F
+  unfolding project_of
+  bodies-are g n b o = λ i. bodies (body_is body_g g i) (body_is body_i n i) (body_is body_b b i) (body_is body_o o i)

@@ -1,10 +1,10 @@
 // The DECOUPLE channels (01, "Turned down", 8): an input is linked exactly if something reads its output. What reads
 // which output port is marked in one walk over all links and one over O.
 ghost use Rattle.std.specs.Prelude.{◌≡◌, ◌<◌, ◌≤◌, length};
-ghost use Rattle.wire.specs.Places.{firstBad, all};
-ghost use Rattle.project.specs.Project.{blockCount, linkCount, outputCount};
-ghost use Rattle.casefile.specs.Rules.{passes, linkPasses, blockPasses, outputPasses, channelRule, channelsOk};
-ghost use Rattle.casefile.specs.Asks.{markCount, Marked, channelBy, channelsBy};
+ghost use Rattle.wire.specs.Places.{first_bad, all};
+ghost use Rattle.project.specs.Project.{block_count, link_count, output_count};
+ghost use Rattle.casefile.specs.Rules.{passes, link_passes, block_passes, output_passes, channel_rule, channels_ok};
+ghost use Rattle.casefile.specs.Asks.{mark_count, Marked, channel_by, channels_by};
 
 use crate::links;
 use kind::Family;
@@ -17,7 +17,7 @@ const MARKS: usize = 512;
 
 // A mark is set for an output port, for what a link names, for a block's links, for all links, for O.
 fn mark(marks: &mut [u8], block: u8, port: u8)
-    requires { length marks.old ≡ markCount }
+    requires { length marks.old ≡ mark_count }
     ensures { Marked marks.old marks.new (passes (Source.Output block port)) }
 {
     let b = block as usize;
@@ -32,7 +32,7 @@ fn mark(marks: &mut [u8], block: u8, port: u8)
 }
 
 fn mark_source(marks: &mut [u8], s: Source)
-    requires { length marks.old ≡ markCount }
+    requires { length marks.old ≡ mark_count }
     ensures { Marked marks.old marks.new (passes s) }
 {
     match s {
@@ -43,9 +43,9 @@ fn mark_source(marks: &mut [u8], s: Source)
 }
 
 fn mark_links(marks: &mut [u8], r: &[u8])
-    requires { length marks.old ≡ markCount }
+    requires { length marks.old ≡ mark_count }
     ensures { Marked marks.old marks.new
-        (λ b p. all (linkPasses r.now b p) linkCount) }
+        (λ b p. all (link_passes r.now b p) link_count) }
 {
     let mut p = 0;
     while p < project::LINKS {
@@ -55,9 +55,9 @@ fn mark_links(marks: &mut [u8], r: &[u8])
 }
 
 fn mark_blocks(marks: &mut [u8], blocks: &[u8])
-    requires { length marks.old ≡ markCount }
+    requires { length marks.old ≡ mark_count }
     ensures { Marked marks.old marks.new
-        (λ b p. all (blockPasses blocks.now b p) (blockCount blocks.now)) }
+        (λ b p. all (block_passes blocks.now b p) (block_count blocks.now)) }
 {
     let n = blocks.len() / project::BLOCK_SIZE;
     let mut a = 0;
@@ -68,9 +68,9 @@ fn mark_blocks(marks: &mut [u8], blocks: &[u8])
 }
 
 fn mark_outputs(marks: &mut [u8], outputs: &[u8])
-    requires { length marks.old ≡ markCount }
+    requires { length marks.old ≡ mark_count }
     ensures { Marked marks.old marks.new
-        (λ b p. all (outputPasses outputs.now b p) (outputCount outputs.now)) }
+        (λ b p. all (output_passes outputs.now b p) (output_count outputs.now)) }
 {
     let n = outputs.len() / project::OUTPUT_SIZE;
     let mut o = 0;
@@ -83,7 +83,7 @@ fn mark_outputs(marks: &mut [u8], outputs: &[u8])
 
 // A DECOUPLE channel's input is linked exactly if its output is read.
 fn channel_rule(r: &[u8], port: u8, read: u8) -> bool
-    ensures { result ≡ channelRule r.now port read }
+    ensures { result ≡ channel_rule r.now port read }
 {
     match kind::family_of(project::kind_of(r)) {
         Family::Decouple => links::link_bit(project::source_of(r, port)) == read,
@@ -95,9 +95,9 @@ fn channel_rule(r: &[u8], port: u8, read: u8) -> bool
 
 // The first wrong channel of block b by the marks, or 8.
 fn first_bad_channel(blocks: &[u8], marks: &[u8], b: usize) -> u8
-    requires marks_len { length marks.now ≡ markCount }
+    requires marks_len { length marks.now ≡ mark_count }
     requires b_bound { b < 64 }
-    ensures { result ≡ firstBad (channelBy blocks.now marks.now b) linkCount }
+    ensures { result ≡ first_bad (channel_by blocks.now marks.now b) link_count }
 {
     let r = project::block_record(blocks, b);
     let mut p = 0;
@@ -112,10 +112,10 @@ fn first_bad_channel(blocks: &[u8], marks: &[u8], b: usize) -> u8
 
 // The first block with a wrong channel by the marks, or how many blocks there are.
 fn first_bad_channels(blocks: &[u8], marks: &[u8]) -> usize
-    requires marks_len { length marks.now ≡ markCount }
-    requires blocks_bound { blockCount blocks.now ≤ 64 }
-    ensures { result ≡ firstBad (channelsBy blocks.now marks.now)
-        (blockCount blocks.now) }
+    requires marks_len { length marks.now ≡ mark_count }
+    requires blocks_bound { block_count blocks.now ≤ 64 }
+    ensures { result ≡ first_bad (channels_by blocks.now marks.now)
+        (block_count blocks.now) }
 {
     let n = blocks.len() / project::BLOCK_SIZE;
     let mut b = 0;
@@ -130,9 +130,9 @@ fn first_bad_channels(blocks: &[u8], marks: &[u8]) -> usize
 
 // The first block with a wrong channel, or how many blocks there are.
 pub fn first_unread(blocks: &[u8], outputs: &[u8]) -> usize
-    requires { blockCount blocks.now ≤ 64 }
-    ensures { result ≡ firstBad (channelsOk blocks.now outputs.now)
-        (blockCount blocks.now) }
+    requires { block_count blocks.now ≤ 64 }
+    ensures { result ≡ first_bad (channels_ok blocks.now outputs.now)
+        (block_count blocks.now) }
 {
     let mut marks = [0u8; MARKS];
     mark_blocks(&mut marks, blocks);

@@ -2,8 +2,8 @@
 // is read through its table of contents, by the reader alone; everything else is over its bodies. Every public function
 // is total: a byte past the end reads as 0.
 ghost use Rattle.std.specs.Prelude.{◌≡◌};
-ghost use Rattle.project.specs.Project.{countsIn};
-ghost use Rattle.casefile.specs.Bodies.{projectOf};
+ghost use Rattle.project.specs.Project.{counts_in};
+ghost use Rattle.casefile.specs.Bodies.{project_of};
 ghost use Rattle.casefile.specs.Refusal.{verdict, number_of};
 
 mod channels;
@@ -39,7 +39,7 @@ pub enum Verdict {
 
 // The device of the file's project, how many records each body has, and the size of a cycle record.
 pub fn counts_in(file: &[u8]) -> Counts
-    ensures { result ≡ countsIn (projectOf file.now) }
+    ensures { result ≡ counts_in (project_of file.now) }
 {
     let starts = starts_of(file);
     project::counts_of(

@@ -1,18 +1,18 @@
 // The links (01, "Turned down", 7). r is the record of the block that has the link at `port`; there are n external
 // inputs and m blocks.
 ghost use Rattle.std.specs.Prelude.{◌≡◌, ◌<◌};
-ghost use Rattle.wire.specs.Places.{firstBad};
-ghost use Rattle.project.specs.Project.{inputCount, blockCount, linkCount};
-ghost use Rattle.casefile.specs.Rules.{linkKnown, sourceFits, linked, bit_of, handActive, linkActive};
-ghost use Rattle.casefile.specs.Rules.{linkOk, linksOk};
+ghost use Rattle.wire.specs.Places.{first_bad};
+ghost use Rattle.project.specs.Project.{input_count, block_count, link_count};
+ghost use Rattle.casefile.specs.Rules.{link_known, source_fits, linked, bit_of, hand_active, link_active};
+ghost use Rattle.casefile.specs.Rules.{link_ok, links_ok};
 
 use kind::Family;
 use project::Source;
 
 // A known kind and target, and no nonzero byte where none is allowed.
 fn link_known(n: usize, blocks: &[u8], m: usize, r: &[u8], port: u8) -> bool
-    requires { m ≡ blockCount blocks.now }
-    ensures { result ≡ linkKnown n blocks.now r.now port }
+    requires { m ≡ block_count blocks.now }
+    ensures { result ≡ link_known n blocks.now r.now port }
 {
     let kind = project::link_kind(r, port);
     let index = project::link_index(r, port);
@@ -33,7 +33,7 @@ fn link_known(n: usize, blocks: &[u8], m: usize, r: &[u8], port: u8) -> bool
 
 // Equal types, and no external input of another group; s is what the link names.
 fn source_fits(inputs: &[u8], blocks: &[u8], r: &[u8], port: u8, s: Source) -> bool
-    ensures { result ≡ sourceFits inputs.now blocks.now r.now port s }
+    ensures { result ≡ source_fits inputs.now blocks.now r.now port s }
 {
     match s {
         Source::Nothing => true,
@@ -77,7 +77,7 @@ fn bit_of(mask: u8, port: u8) -> u8
 
 // A TWOHAND input is linked exactly if it is active.
 fn hand_active(r: &[u8], port: u8) -> bool
-    ensures { result ≡ handActive r.now port }
+    ensures { result ≡ hand_active r.now port }
 {
     if 4 <= port {
         return true;
@@ -87,7 +87,7 @@ fn hand_active(r: &[u8], port: u8) -> bool
 }
 
 fn link_active(r: &[u8], port: u8) -> bool
-    ensures { result ≡ linkActive r.now port }
+    ensures { result ≡ link_active r.now port }
 {
     match kind::family_of(project::kind_of(r)) {
         Family::Decouple => true,
@@ -98,9 +98,9 @@ fn link_active(r: &[u8], port: u8) -> bool
 }
 
 fn link_ok(inputs: &[u8], n: usize, blocks: &[u8], m: usize, r: &[u8], port: u8) -> bool
-    requires n_value { n ≡ inputCount inputs.now }
-    requires m_value { m ≡ blockCount blocks.now }
-    ensures { result ≡ linkOk inputs.now blocks.now r.now port }
+    requires n_value { n ≡ input_count inputs.now }
+    requires m_value { m ≡ block_count blocks.now }
+    ensures { result ≡ link_ok inputs.now blocks.now r.now port }
 {
     if !link_known(n, blocks, m, r, port) {
         return false;
@@ -110,10 +110,10 @@ fn link_ok(inputs: &[u8], n: usize, blocks: &[u8], m: usize, r: &[u8], port: u8)
 
 // The first port of a block with a wrong link, or 8.
 fn first_bad_link(inputs: &[u8], n: usize, blocks: &[u8], m: usize, r: &[u8]) -> u8
-    requires n_value { n ≡ inputCount inputs.now }
-    requires m_value { m ≡ blockCount blocks.now }
+    requires n_value { n ≡ input_count inputs.now }
+    requires m_value { m ≡ block_count blocks.now }
     ensures { result
-        ≡ firstBad (linkOk inputs.now blocks.now r.now) linkCount }
+        ≡ first_bad (link_ok inputs.now blocks.now r.now) link_count }
 {
     let mut p = 0;
     while p < project::LINKS {
@@ -127,8 +127,8 @@ fn first_bad_link(inputs: &[u8], n: usize, blocks: &[u8], m: usize, r: &[u8]) ->
 
 // The first block with a wrong link, or how many blocks there are.
 pub fn first_bad_links(inputs: &[u8], blocks: &[u8]) -> usize
-    ensures { result ≡ firstBad (linksOk inputs.now blocks.now)
-        (blockCount blocks.now) }
+    ensures { result ≡ first_bad (links_ok inputs.now blocks.now)
+        (block_count blocks.now) }
 {
     let n = inputs.len() / project::INPUT_SIZE;
     let m = blocks.len() / project::BLOCK_SIZE;

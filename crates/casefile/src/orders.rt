@@ -1,14 +1,14 @@
 // The execution numbers (01, "Turned down", 6).
 ghost use Rattle.std.specs.Prelude.{◌≡◌, ◌≤◌};
-ghost use Rattle.wire.specs.Places.{firstBad};
-ghost use Rattle.project.specs.Project.{blockCount};
-ghost use Rattle.casefile.specs.Rules.{orderOk};
+ghost use Rattle.wire.specs.Places.{first_bad};
+ghost use Rattle.project.specs.Project.{block_count};
+ghost use Rattle.casefile.specs.Rules.{order_ok};
 
 // The first block whose execution number is not below their number or stands at an earlier block, or how many there
 // are. A mark is 1 exactly if an earlier block has the number.
 pub fn first_bad_order(blocks: &[u8]) -> usize
-    requires { blockCount blocks.now ≤ 64 }
-    ensures { result ≡ firstBad (orderOk blocks.now) (blockCount blocks.now) }
+    requires { block_count blocks.now ≤ 64 }
+    ensures { result ≡ first_bad (order_ok blocks.now) (block_count blocks.now) }
 {
     let n = blocks.len() / project::BLOCK_SIZE;
     let mut seen = [0u8; 64];

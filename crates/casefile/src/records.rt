@@ -1,21 +1,21 @@
 // The rules of the bodies' lengths, and of a record by itself or beside what it names (01, "Turned down", 3, 4, 5, 8
 // and 9). A search over the records of a body answers the first that is wrong, or how many there are.
 ghost use Rattle.std.specs.Prelude.{◌≡◌, ◌≤◌};
-ghost use Rattle.wire.specs.Places.{firstBad};
-ghost use Rattle.project.specs.Project.{groupCount, inputCount, blockCount, outputCount};
-ghost use Rattle.casefile.specs.Rules.{groupsSizeOk, groupRecordOk, inputsSizeOk, inputRule};
-ghost use Rattle.casefile.specs.Rules.{inputRecordOk, blocksSizeOk, blockRule, blockRecordOk, outputsSizeOk};
-ghost use Rattle.casefile.specs.Rules.{outputRule, outputRecordOk, traceOk};
+ghost use Rattle.wire.specs.Places.{first_bad};
+ghost use Rattle.project.specs.Project.{group_count, input_count, block_count, output_count};
+ghost use Rattle.casefile.specs.Rules.{groups_size_ok, group_record_ok, inputs_size_ok, input_rule};
+ghost use Rattle.casefile.specs.Rules.{input_record_ok, blocks_size_ok, block_rule, block_record_ok, outputs_size_ok};
+ghost use Rattle.casefile.specs.Rules.{output_rule, output_record_ok, trace_ok};
 
 // 3: 1 to 8 groups, and the device.
 pub fn groups_size_ok(groups: &[u8]) -> bool
-    ensures { result ≡ groupsSizeOk groups.now }
+    ensures { result ≡ groups_size_ok groups.now }
 {
     (2 <= groups.len()) & (groups.len() <= 9) & kind::is_device(project::device_in(groups))
 }
 
 pub fn first_bad_group(groups: &[u8]) -> usize
-    ensures { result ≡ firstBad (groupRecordOk groups.now) (groupCount groups.now) }
+    ensures { result ≡ first_bad (group_record_ok groups.now) (group_count groups.now) }
 {
     let device = project::device_in(groups);
     let n = project::group_count(groups);
@@ -31,20 +31,20 @@ pub fn first_bad_group(groups: &[u8]) -> usize
 
 // 4: at most 128 whole records, and a record's fields.
 pub fn inputs_size_ok(inputs: &[u8]) -> bool
-    ensures { result ≡ inputsSizeOk inputs.now }
+    ensures { result ≡ inputs_size_ok inputs.now }
 {
     (inputs.len() % project::INPUT_SIZE == 0) & (inputs.len() / project::INPUT_SIZE <= 128)
 }
 
 fn input_rule(groups: usize, r: &[u8]) -> bool
-    ensures { result ≡ inputRule groups r.now }
+    ensures { result ≡ input_rule groups r.now }
 {
     ((project::input_group(r) as usize) < groups) & (project::input_type(r) <= kind::BOOL)
 }
 
 pub fn first_bad_input(groups: &[u8], inputs: &[u8]) -> usize
-    ensures { result ≡ firstBad (inputRecordOk groups.now inputs.now)
-        (inputCount inputs.now) }
+    ensures { result ≡ first_bad (input_record_ok groups.now inputs.now)
+        (input_count inputs.now) }
 {
     let h = project::group_count(groups);
     let n = inputs.len() / project::INPUT_SIZE;
@@ -60,14 +60,14 @@ pub fn first_bad_input(groups: &[u8], inputs: &[u8]) -> usize
 
 // 5: 1 to 64 whole records, and a record's fields, links and execution number apart.
 pub fn blocks_size_ok(blocks: &[u8]) -> bool
-    ensures { result ≡ blocksSizeOk blocks.now }
+    ensures { result ≡ blocks_size_ok blocks.now }
 {
     let n = blocks.len() / project::BLOCK_SIZE;
     (blocks.len() % project::BLOCK_SIZE == 0) & (1 <= n) & (n <= 64)
 }
 
 fn block_rule(device: u8, groups: usize, r: &[u8]) -> bool
-    ensures { result ≡ blockRule device groups r.now }
+    ensures { result ≡ block_rule device groups r.now }
 {
     ((project::group_of(r) as usize) < groups)
         & (project::zero_of(r) == 0)
@@ -75,8 +75,8 @@ fn block_rule(device: u8, groups: usize, r: &[u8]) -> bool
 }
 
 pub fn first_bad_block(groups: &[u8], blocks: &[u8]) -> usize
-    ensures { result ≡ firstBad (blockRecordOk groups.now blocks.now)
-        (blockCount blocks.now) }
+    ensures { result ≡ first_bad (block_record_ok groups.now blocks.now)
+        (block_count blocks.now) }
 {
     let device = project::device_in(groups);
     let h = project::group_count(groups);
@@ -93,13 +93,13 @@ pub fn first_bad_block(groups: &[u8], blocks: &[u8]) -> usize
 
 // 8: at most 64 whole records, and a record's fields; `other` is the record of the block that it names.
 pub fn outputs_size_ok(outputs: &[u8]) -> bool
-    ensures { result ≡ outputsSizeOk outputs.now }
+    ensures { result ≡ outputs_size_ok outputs.now }
 {
     (outputs.len() % project::OUTPUT_SIZE == 0) & (outputs.len() / project::OUTPUT_SIZE <= 64)
 }
 
 fn output_rule(groups: usize, blocks: usize, r: &[u8], other: &[u8]) -> bool
-    ensures { result ≡ outputRule groups blocks r.now other.now }
+    ensures { result ≡ output_rule groups blocks r.now other.now }
 {
     ((project::output_group(r) as usize) < groups)
         & ((project::output_block(r) as usize) < blocks)
@@ -109,8 +109,8 @@ fn output_rule(groups: usize, blocks: usize, r: &[u8], other: &[u8]) -> bool
 
 pub fn first_bad_output(groups: &[u8], blocks: &[u8], outputs: &[u8]) -> usize
     ensures { result
-        ≡ firstBad (outputRecordOk groups.now blocks.now outputs.now)
-        (outputCount outputs.now) }
+        ≡ first_bad (output_record_ok groups.now blocks.now outputs.now)
+        (output_count outputs.now) }
 {
     let h = project::group_count(groups);
     let m = blocks.len() / project::BLOCK_SIZE;
@@ -129,9 +129,9 @@ pub fn first_bad_output(groups: &[u8], blocks: &[u8], outputs: &[u8]) -> usize
 
 // 9: T is a whole number of records.
 pub fn trace_ok(groups: &[u8], inputs: &[u8], records: &[u8]) -> bool
-    requires groups_bound { groupCount groups.now ≤ 8 }
-    requires inputs_bound { inputCount inputs.now ≤ 128 }
-    ensures { result ≡ traceOk groups.now inputs.now records.now }
+    requires groups_bound { group_count groups.now ≤ 8 }
+    requires inputs_bound { input_count inputs.now ≤ 128 }
+    ensures { result ≡ trace_ok groups.now inputs.now records.now }
 {
     let words = project::WORD_SIZE * (inputs.len() / project::INPUT_SIZE);
     records.len() % (project::HEAD_SIZE + project::group_count(groups) + words) == 0

@@ -1,8 +1,8 @@
 // The table of refusals (01, "Turned down: numbers and order"): the rules in their order, the number of each, and its
 // test over the file and its bodies.
 ghost use Rattle.std.specs.Prelude.{◌≡◌, ◌<◌};
-ghost use Rattle.casefile.specs.Rules.{sizeOk};
-ghost use Rattle.casefile.specs.Refusal.{ruleCount, ruleAt, refusalOf, keptBy};
+ghost use Rattle.casefile.specs.Rules.{size_ok};
+ghost use Rattle.casefile.specs.Refusal.{rule_count, rule_at, refusal_of, kept_by};
 ghost use Rattle.casefile.specs.Asks.{Reached};
 
 use crate::{channels, links, orders, records};
@@ -49,14 +49,14 @@ const TABLE: [Rule; RULES] = [
 ];
 
 pub fn rule_at(k: usize) -> Rule
-    requires { k < ruleCount }
-    ensures { result ≡ ruleAt k }
+    requires { k < rule_count }
+    ensures { result ≡ rule_at k }
 {
     TABLE[k]
 }
 
 pub fn refusal_of(r: Rule) -> u8
-    ensures { result ≡ refusalOf r }
+    ensures { result ≡ refusal_of r }
 {
     match r {
         Rule::Size => 1,
@@ -78,7 +78,7 @@ pub fn refusal_of(r: Rule) -> u8
 
 // 1: the file's size.
 fn size_ok(file: &[u8]) -> bool
-    ensures { result ≡ sizeOk file.now }
+    ensures { result ≡ size_ok file.now }
 {
     (CONTENTS_SIZE <= file.len()) & (file.len() <= project::FILE_MOST)
 }
@@ -86,7 +86,7 @@ fn size_ok(file: &[u8]) -> bool
 // The test of a rule, of the file and its bodies G, I, B, O and T.
 pub fn keeps(file: &[u8], g: &[u8], i: &[u8], b: &[u8], o: &[u8], t: &[u8], r: Rule) -> bool
     requires { Reached g.now i.now b.now r }
-    ensures { result ≡ keptBy file.now g.now i.now
+    ensures { result ≡ kept_by file.now g.now i.now
         b.now o.now t.now r }
 {
     match r {

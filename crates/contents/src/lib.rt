@@ -2,20 +2,20 @@
 // n is 5). Every public function is total: a byte past the end reads as 0.
 ghost use Rattle.std.specs.Prelude.{◌≡◌, ◌+◌, ◌-◌, ◌<◌, ◌≤◌, length};
 ghost use Rattle.wire.specs.Words.{le32};
-ghost use Rattle.wire.specs.Places.{firstBad};
-ghost use Rattle.contents.specs.Contents.{bodyStart, bodySize, followsOk, contentsOk};
+ghost use Rattle.wire.specs.Places.{first_bad};
+ghost use Rattle.contents.specs.Contents.{body_start, body_size, follows_ok, contents_ok};
 
 const ENTRY_SIZE: usize = 8;
 
 // Where body e starts, and how long it is, as its entry says.
 pub fn start(file: &[u8], e: u8) -> u32
-    ensures { result ≡ bodyStart file.now e }
+    ensures { result ≡ body_start file.now e }
 {
     wire::read32(file, ENTRY_SIZE * (e as usize))
 }
 
 pub fn size(file: &[u8], e: u8) -> u32
-    ensures { result ≡ bodySize file.now e }
+    ensures { result ≡ body_size file.now e }
 {
     wire::read32(file, ENTRY_SIZE * (e as usize) + 4)
 }
@@ -31,7 +31,7 @@ fn word(file: &[u8], i: usize) -> u32
 // Body e + 1 starts where body e ends. Where the file has both entries, one look at its size is enough.
 fn follows(file: &[u8], e: u8) -> bool
     requires { e < 255 }
-    ensures { result ≡ followsOk file.now e }
+    ensures { result ≡ follows_ok file.now e }
 {
     let at = ENTRY_SIZE * (e as usize);
     let next = ENTRY_SIZE * (e as usize + 1);
@@ -43,7 +43,7 @@ fn follows(file: &[u8], e: u8) -> bool
 
 // The first body, of those before the last, that the next does not follow, or the last.
 fn first_gap(file: &[u8], last: u8) -> u8
-    ensures { result ≡ firstBad (followsOk file.now) last }
+    ensures { result ≡ first_bad (follows_ok file.now) last }
 {
     let mut e = 0;
     while e < last {
@@ -64,7 +64,7 @@ fn last_of(n: u8) -> u8
 
 // Whether the n bodies stand one after the other, from the table to the end of the file.
 pub fn ok(file: &[u8], n: u8) -> bool
-    ensures { result ≡ contentsOk n file.now }
+    ensures { result ≡ contents_ok n file.now }
 {
     let last = last_of(n);
     ((start(file, 0) as usize) == ENTRY_SIZE * (n as usize))

@@ -1,31 +1,31 @@
 -- The files of the examples are accepted, by computation of the definition: the listing that 01, "The trace program",
 -- writes out, P1's project, and the two that differ in their execution numbers. Assumes nothing.
 use Rattle.wire.proofs.Usual.{◌≡◌, refl}
-use Rattle.wire.specs.Places.{firstBad, all}
+use Rattle.wire.specs.Places.{first_bad, all}
 use Rattle.wire.specs.Tables.{first}
-use Rattle.kind.specs.Kinds.{familyOf}
-use Rattle.kind.specs.Devices.{deviceOf}
-use Rattle.kind.specs.Parameters.{zerosFrom, arithmeticRule, parametersFit, parametersOk}
-use Rattle.contents.specs.Contents.{bodyStart, bodySize, body_of, followsOk, contentsOk}
-use Rattle.project.specs.Project.{row_of, device, groupCount, runLinked, inputCount, blockCount, parametersIn, link_in}
-use Rattle.project.specs.Project.{otherOrder, outputCount, recordSize}
+use Rattle.kind.specs.Kinds.{family_of}
+use Rattle.kind.specs.Devices.{device_of}
+use Rattle.kind.specs.Parameters.{zeros_from, arithmetic_rule, parameters_fit, parameters_ok}
+use Rattle.contents.specs.Contents.{body_start, body_size, body_of, follows_ok, contents_ok}
+use Rattle.project.specs.Project.{row_of, device, group_count, run_linked, input_count, block_count, parameters_in, link_in}
+use Rattle.project.specs.Project.{other_order, output_count, record_size}
 use Rattle.casefile.specs.declared.Verdict.TheVariants.{Accepted}
-use Rattle.casefile.specs.Bodies.{bodyIn}
-use Rattle.casefile.specs.Rules.{sizeOk, groupsSizeOk, groupRecordOk, inputsSizeOk, inputRule, inputRecordOk}
-use Rattle.casefile.specs.Rules.{blocksSizeOk, blockRule, blockRecordOk, orderOk, linkKnown, sourceTyped}
-use Rattle.casefile.specs.Rules.{sourceGrouped, sourceFits, linkActiveOf, linkOk, linksOk, outputsSizeOk}
-use Rattle.casefile.specs.Rules.{outputRule, outputRecordOk, passes, linkPasses, blockPasses, outputPasses}
-use Rattle.casefile.specs.Rules.{nothingReads, channelRuleOf, channelOk, channelsOk, traceOk}
-use Rattle.casefile.specs.Refusal.{fileTable, verdict}
+use Rattle.casefile.specs.Bodies.{body_in}
+use Rattle.casefile.specs.Rules.{size_ok, groups_size_ok, group_record_ok, inputs_size_ok, input_rule, input_record_ok}
+use Rattle.casefile.specs.Rules.{blocks_size_ok, block_rule, block_record_ok, order_ok, link_known, source_typed}
+use Rattle.casefile.specs.Rules.{source_grouped, source_fits, link_active_of, link_ok, links_ok, outputs_size_ok}
+use Rattle.casefile.specs.Rules.{output_rule, output_record_ok, passes, link_passes, block_passes, output_passes}
+use Rattle.casefile.specs.Rules.{nothing_reads, channel_rule_of, channel_ok, channels_ok, trace_ok}
+use Rattle.casefile.specs.Refusal.{file_table, verdict}
 use Rattle.demands.specs.Listing.{listing}
-use Rattle.demands.specs.Examples.{subtraction, asNumbered, otherwise}
+use Rattle.demands.specs.Examples.{subtraction, as_numbered, otherwise}
 
-pub accepted-all : ((verdict listing ≡ Accepted) × (verdict subtraction ≡ Accepted))
-    × ((verdict asNumbered ≡ Accepted) × (verdict otherwise ≡ Accepted))
-unfolding listing subtraction asNumbered otherwise verdict fileTable first sizeOk contentsOk followsOk bodyStart
-    bodySize body_of bodyIn row_of groupsSizeOk groupRecordOk inputsSizeOk inputRecordOk inputRule blocksSizeOk
-    blockRecordOk blockRule orderOk otherOrder linksOk linkOk linkKnown sourceFits sourceTyped sourceGrouped
-    linkActiveOf outputsSizeOk outputRecordOk outputRule channelsOk channelOk channelRuleOf nothingReads blockPasses
-    linkPasses outputPasses passes traceOk device groupCount runLinked inputCount blockCount parametersIn link_in
-    outputCount recordSize firstBad all parametersOk parametersFit arithmeticRule zerosFrom familyOf deviceOf
-accepted-all = ((refl, refl), (refl, refl))
+pub accepted_all : ((verdict listing ≡ Accepted) × (verdict subtraction ≡ Accepted))
+    × ((verdict as_numbered ≡ Accepted) × (verdict otherwise ≡ Accepted))
+unfolding listing subtraction as_numbered otherwise verdict file_table first size_ok contents_ok follows_ok body_start
+    body_size body_of body_in row_of groups_size_ok group_record_ok inputs_size_ok input_record_ok input_rule blocks_size_ok
+    block_record_ok block_rule order_ok other_order links_ok link_ok link_known source_fits source_typed source_grouped
+    link_active_of outputs_size_ok output_record_ok output_rule channels_ok channel_ok channel_rule_of nothing_reads block_passes
+    link_passes output_passes passes trace_ok device group_count run_linked input_count block_count parameters_in link_in
+    output_count record_size first_bad all parameters_ok parameters_fit arithmetic_rule zeros_from family_of device_of
+accepted_all = ((refl, refl), (refl, refl))

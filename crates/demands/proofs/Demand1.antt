@@ -10,27 +10,27 @@ use Rattle.wire.specs.Tables.{Row, first}
 use Rattle.wire.proofs.Places.{both_left, both_right}
 use Rattle.wire.proofs.Tables.{numbered, first-zero, first_some}
 use Rattle.project.specs.Project.{Project}
-use Rattle.casefile.specs.Bodies.{projectOf}
-use Rattle.casefile.specs.Refusal.{fileTable, told, verdict, number_of}
+use Rattle.casefile.specs.Bodies.{project_of}
+use Rattle.casefile.specs.Refusal.{file_table, told, verdict, number_of}
 use Rattle.evaluator.specs.declared.Answer.TheVariants.{Findings}
-use Rattle.evaluator.specs.Cycle.{findingCount}
-use Rattle.evaluator.specs.Answer.{Lent, callTable, refusal, leaves, cycleOf, number_in}
-use Rattle.evaluator.specs.Fresh.{sizesAt, sizesOf, sizesNumber, freshTable, freshNumber, freshLeft}
+use Rattle.evaluator.specs.Cycle.{finding_count}
+use Rattle.evaluator.specs.Answer.{Lent, call_table, refusal, leaves, cycle_of, number_in}
+use Rattle.evaluator.specs.Fresh.{sizes_at, sizes_of, sizes_number, fresh_table, fresh_number, fresh_left}
 use Rattle.demands.specs.Demands.{rising, Numbered, Answered, SizesAnswered, FreshAnswered, Demand1}
 
 -- ---- a number that is the first of a table whose numbers rise
 
-rising-numbered : (m : ℕ) (t : List Row) → 1 ≤ m → rising m t ≡ true → numbered t ≡ true
+rising_numbered : (m : ℕ) (t : List Row) → 1 ≤ m → rising m t ≡ true → numbered t ≡ true
 unfolding rising numbered
-rising-numbered m [] l e = refl
-rising-numbered m (r ∷ rs) l e =
+rising_numbered m [] l e = refl
+rising_numbered m (r ∷ rs) l e =
     let some : 1 ≤ r.number =
     omega (arith, leb-true m r.number (both_left (leb m r.number) (rising r.number rs) e)) in
     rw (lt-ltb 0 r.number (omega arith))
-    (rising-numbered r.number rs some (both_right (leb m r.number) (rising r.number rs) e))
+    (rising_numbered r.number rs some (both_right (leb m r.number) (rising r.number rs) e))
 
-pub by-table : (t : List Row) {n : ℕ} → rising 1 t ≡ true → n ≡ first t → Numbered t n
-by-table t {n} up e = record {
+pub by_table : (t : List Row) {n : ℕ} → rising 1 t ≡ true → n ≡ first t → Numbered t n
+by_table t {n} up e = record {
   refused = λ k.
       let some = first_some t each (suc k) (λ z. omega (arith, z)) in
       (λ m. some.0 (sym e ∙ m), λ f. e ∙ some.1 f);
@@ -39,7 +39,7 @@ by-table t {n} up e = record {
 }
   where
     each : numbered t ≡ true
-    each = rising-numbered 1 t (omega arith) up
+    each = rising_numbered 1 t (omega arith) up
 
 -- ---- a cycle call
 
@@ -53,50 +53,50 @@ module _ (P : Project) (R : List ℕ) (L : Lent) where
   left-untouched (suc n) h = refl
 
   left-count : (n : ℕ) → n ≡ 0 →
-      (leaves n P R L).answer ≡ Findings (findingCount P.groups P.blocks R L.state)
+      (leaves n P R L).answer ≡ Findings (finding_count P.groups P.blocks R L.state)
   left-count zero e = refl
   left-count (suc n) e = absurd (omega (arith, e))
 
 answered : (F R : List ℕ) (L : Lent) → Answered F R L
-unfolding cycleOf refusal callTable fileTable rising
+unfolding cycle_of refusal call_table file_table rising
 answered F R L =
-    let n = left-number (projectOf F) R L (refusal F R L) in
+    let n = left-number (project_of F) R L (refusal F R L) in
     record {
-      number = by-table (callTable F R L) refl n;
-      untouched = λ h. left-untouched (projectOf F) R L (refusal F R L) (λ z. h (n ∙ z));
-      count = λ z. left-count (projectOf F) R L (refusal F R L) (sym n ∙ z);
+      number = by_table (call_table F R L) refl n;
+      untouched = λ h. left-untouched (project_of F) R L (refusal F R L) (λ z. h (n ∙ z));
+      count = λ z. left-count (project_of F) R L (refusal F R L) (sym n ∙ z);
     }
 
 -- ---- a check, the sizes, the fresh state
 
-pub told-number : (n : ℕ) → number_of (told n) ≡ n
-told-number zero = refl
-told-number (suc n) = rw (ne_eqb (suc n) 0 (λ z. omega (arith, z)))
+pub told_number_is : (n : ℕ) → number_of (told n) ≡ n
+told_number_is zero = refl
+told_number_is (suc n) = rw (ne_eqb (suc n) 0 (λ z. omega (arith, z)))
 
-checked : (F : List ℕ) → Numbered (fileTable F) (number_of (verdict F))
-unfolding verdict fileTable rising
-checked F = by-table (fileTable F) refl (told-number (first (fileTable F)))
+checked : (F : List ℕ) → Numbered (file_table F) (number_of (verdict F))
+unfolding verdict file_table rising
+checked F = by_table (file_table F) refl (told_number_is (first (file_table F)))
 
-sized-number : (n : ℕ) (P : Project) → sizesNumber (sizesAt n P) ≡ n
-sized-number zero P = refl
-sized-number (suc n) P = rw (ne_eqb (suc n) 0 (λ z. omega (arith, z)))
+sized_number : (n : ℕ) (P : Project) → sizes_number (sizes_at n P) ≡ n
+sized_number zero P = refl
+sized_number (suc n) P = rw (ne_eqb (suc n) 0 (λ z. omega (arith, z)))
 
 sized : (F : List ℕ) → SizesAnswered F
-unfolding sizesOf fileTable rising
+unfolding sizes_of file_table rising
 sized F =
-    let n = sized-number (first (fileTable F)) (projectOf F) in
+    let n = sized_number (first (file_table F)) (project_of F) in
     record {
-      number = by-table (fileTable F) refl n;
-      told = λ z. ap (λ (m : ℕ). sizesAt m (projectOf F)) (sym n ∙ z);
+      number = by_table (file_table F) refl n;
+      told = λ z. ap (λ (m : ℕ). sizes_at m (project_of F)) (sym n ∙ z);
     }
 
-fresh-answered : (F S : List ℕ) → FreshAnswered F S
-unfolding freshNumber freshLeft freshTable fileTable rising
-fresh-answered F S = record {
-  number = by-table (freshTable F S) refl refl;
-  untouched = λ h. rw (ne_eqb (freshNumber F S) 0 h);
+fresh_answered : (F S : List ℕ) → FreshAnswered F S
+unfolding fresh_number fresh_left fresh_table file_table rising
+fresh_answered F S = record {
+  number = by_table (fresh_table F S) refl refl;
+  untouched = λ h. rw (ne_eqb (fresh_number F S) 0 h);
   written = λ z. rw z;
 }
 
 pub demand1 : Demand1
-demand1 = record { calls = answered; checks = checked; sizes = sized; fresh = fresh-answered }
+demand1 = record { calls = answered; checks = checked; sizes = sized; fresh = fresh_answered }

@@ -8,23 +8,23 @@ use mathlib.Core.List.{append_assoc}
 use native.Mathlib.Nat.{not-suc-le-zero}
 use lib.ListN.{get_or-replicate, get_or-eq_default}
 use lib.Seq.{take_at, drop_at, get_or-append-add}
-use Rattle.wire.specs.Words.{byteAt}
+use Rattle.wire.specs.Words.{byte_at}
 use Rattle.wire.specs.Records.{slot}
-use Rattle.wire.proofs.Records.{slot-past}
+use Rattle.wire.proofs.Records.{slot_past}
 use Rattle.wire.proofs.Packing.{entries-length}
-use Rattle.project.specs.Project.{inputCount, groupCount, blockCount, group_of, order_of}
+use Rattle.project.specs.Project.{input_count, group_count, block_count, group_of, order_of}
 use Rattle.casefile.specs.Sound.{Sound}
-use Rattle.casefile.specs.Bodies.{projectOf}
+use Rattle.casefile.specs.Bodies.{project_of}
 use Rattle.casefile.proofs.Accepted.{accepted}
-use Rattle.block.specs.Finding.{findingSize}
+use Rattle.block.specs.Finding.{finding_size}
 use Rattle.evaluator.specs.declared.Answer.TheVariants.{Findings, Refused}
 use Rattle.evaluator.specs.Net.{words, seen}
-use Rattle.evaluator.specs.State.{cell, stateFormed}
+use Rattle.evaluator.specs.State.{cell, state_formed}
 use Rattle.evaluator.specs.Groups.{phase}
 use Rattle.wire.specs.Packed.{entries, hits, packed}
-use Rattle.evaluator.specs.Cycle.{net, ran, turnedFrom, wires, newBlock, wordsRead, newFindings, enters, findingFor}
-use Rattle.evaluator.specs.Cycle.{finding, findingCount}
-use Rattle.evaluator.specs.Answer.{Lent, Left, refusal, leaves, cycleOf}
+use Rattle.evaluator.specs.Cycle.{net, ran, turned_from, wires, new_block, words_read, new_findings, enters, finding_for}
+use Rattle.evaluator.specs.Cycle.{finding, finding_count}
+use Rattle.evaluator.specs.Answer.{Lent, Left, refusal, leaves, cycle_of}
 use Rattle.evaluator.proofs.Agree.{unique}
 use Rattle.evaluator.proofs.Cycles.{new-stepped}
 use Rattle.evaluator.proofs.Checked.{new-formed}
@@ -37,16 +37,16 @@ use Rattle.demands.specs.Demands.{CycledBy, Demand2}
 -- ---- the blocks' new bytes
 
 -- nothing else meets the equation of the steps
-new-only : {n : ℕ} (G B R S : List ℕ) → Sound G B n → (new : ℕ → List ℕ) →
-    ((b : ℕ) → b < blockCount B →
+new_only : {n : ℕ} (G B R S : List ℕ) → Sound G B n → (new : ℕ → List ℕ) →
+    ((b : ℕ) → b < block_count B →
     new b
-    ≡ turnedFrom B R (phase G B R S (group_of B b)) b (cell (groupCount G) S b)
-    (words (wires (groupCount G) B R) (seen (order_of B) (cell (groupCount G) S) new b) b)) →
-    (b : ℕ) → b < blockCount B → new b ≡ newBlock G B R S b
-unfolding newBlock ran net wires
-new-only G B R S g new h b l =
-    unique (λ b. b < blockCount B) (net (groupCount G) B R (phase G B R S)) (order_of B) (cell (groupCount G) S) new
-    (λ b p a q l x. g.output b p a q l x) h (blockCount B) b l (g.orderBelow b l)
+    ≡ turned_from B R (phase G B R S (group_of B b)) b (cell (group_count G) S b)
+    (words (wires (group_count G) B R) (seen (order_of B) (cell (group_count G) S) new b) b)) →
+    (b : ℕ) → b < block_count B → new b ≡ new_block G B R S b
+unfolding new_block ran net wires
+new_only G B R S g new h b l =
+    unique (λ b. b < block_count B) (net (group_count G) B R (phase G B R S)) (order_of B) (cell (group_count G) S) new
+    (λ b p a q l x. g.output b p a q l x) h (block_count B) b l (g.order_below b l)
 
 -- ---- the findings in their buffer
 
@@ -83,7 +83,7 @@ module _ (w : ℕ) (hit : ℕ → Bool) (f : ℕ → List ℕ) (long : (b : ℕ)
   packed-at : (size n b : ℕ) → b < n → hit b ≡ true → slot 0 w (hits b hit) (packed size n hit f) ≡ f b
   unfolding packed
   packed-at size n b l h =
-      slot-past 0 w (hits b hit) (packed size n hit f)
+      slot_past 0 w (hits b hit) (packed size n hit f)
       ∙ ap (λ (t : List ℕ). take w (drop (w * hits b hit) t)) whole
       ∙ ap (take w) (drop_at (entries b hit f) (f b ++ (c.rest ++ zeros)) (w * hits b hit)
       (entries-length w hit f b (λ j _. long j)))
@@ -101,25 +101,25 @@ module _ (w : ℕ) (hit : ℕ → Bool) (f : ℕ → List ℕ) (long : (b : ℕ)
           ∙ ap (λ (t : List ℕ). entries b hit f ++ t) (append_assoc (f b) c.rest zeros)
 
   -- past the entries there are zeros
-  packed-past : (size n i : ℕ) → w * hits n hit ≤ i → byteAt (packed size n hit f) i ≡ 0
+  packed-past : (size n i : ℕ) → w * hits n hit ≤ i → byte_at (packed size n hit f) i ≡ 0
   unfolding packed
   packed-past size n i l =
       let m = size - length (entries n hit f) in
       let j = i - length (entries n hit f) in
       let at : i ≡ length (entries n hit f) + j = omega (arith, entries-length w hit f n (λ b _. long b)) in
-      ap (byteAt (packed size n hit f)) at ∙ get_or-append-add (entries n hit f) (replicate m 0) j 0 ∙ zero-at m j
+      ap (byte_at (packed size n hit f)) at ∙ get_or-append-add (entries n hit f) (replicate m 0) j 0 ∙ zero-at m j
     where
-      zero-at : (m j : ℕ) → byteAt (replicate m 0) j ≡ 0
+      zero-at : (m j : ℕ) → byte_at (replicate m 0) j ≡ 0
       zero-at m j = go (dec_lt j m)
         where
-          go : Dec (j < m) → byteAt (replicate m 0) j ≡ 0
+          go : Dec (j < m) → byte_at (replicate m 0) j ≡ 0
           go (yes q) = get_or-replicate m j 0 0 q
           go (no q) = get_or-eq_default (replicate m 0) 0 (omega (arith, q, length-replicate {A = ℕ} m 0))
 
 -- ---- an accepted call
 
 module _ (F R : List ℕ) (L : Lent) where
-  not-refused : (k : ℕ) → (cycleOf F R L).answer ≡ Findings k → refusal F R L ≡ 0
+  not-refused : (k : ℕ) → (cycle_of F R L).answer ≡ Findings k → refusal F R L ≡ 0
   not-refused k e = go (ℕ_discrete (refusal F R L) 0)
     where
       go : Dec (refusal F R L ≡ 0) → refusal F R L ≡ 0
@@ -130,8 +130,8 @@ module _ (F R : List ℕ) (L : Lent) where
           in
           let never : ◌≡◌ {A = ℕ} 0 1 = cc in omega arith
 
-  cycled : (k : ℕ) → (cycleOf F R L).answer ≡ Findings k → CycledBy F R L (projectOf F) k
-  unfolding findingCount newFindings finding findingFor wordsRead
+  cycled : (k : ℕ) → (cycle_of F R L).answer ≡ Findings k → CycledBy F R L (project_of F) k
+  unfolding finding_count new_findings finding finding_for words_read
   cycled k e = record {
     state = ap (λ (l : Left). l.lent.state) done;
     outputs = ap (λ (l : Left). l.lent.outputs) done;
@@ -139,25 +139,25 @@ module _ (F R : List ℕ) (L : Lent) where
     counted = counted;
     stepped = new-stepped G B R S sound;
     read = λ b. refl;
-    only = new-only G B R S sound;
+    only = new_only G B R S sound;
     found = λ b l h.
-        ap (λ (t : Left). slot 0 findingSize (hits b (enters G B R S)) t.lent.findings) done
-        ∙ packed-at findingSize (enters G B R S) (finding G B R S) (λ b. found-length B b _ _)
-        (findingSize * blockCount B) (blockCount B) b l h;
+        ap (λ (t : Left). slot 0 finding_size (hits b (enters G B R S)) t.lent.findings) done
+        ∙ packed-at finding_size (enters G B R S) (finding G B R S) (λ b. found-length B b _ _)
+        (finding_size * block_count B) (block_count B) b l h;
     unused = λ i l.
-        ap (λ (t : Left). byteAt t.lent.findings i) done
-        ∙ packed-past findingSize (enters G B R S) (finding G B R S) (λ b. found-length B b _ _)
-        (findingSize * blockCount B) (blockCount B) i (rw counted at l);
+        ap (λ (t : Left). byte_at t.lent.findings i) done
+        ∙ packed-past finding_size (enters G B R S) (finding G B R S) (λ b. found-length B b _ _)
+        (finding_size * block_count B) (block_count B) i (rw counted at l);
     formed =
-        ap (λ (l : Left). stateFormed G B l.lent.state) done
+        ap (λ (l : Left). state_formed G B l.lent.state) done
         ∙ new-formed G B R S sound (call-passed F R L zero_number).state;
   }
     where
       G : List ℕ
-      G = (projectOf F).groups
+      G = (project_of F).groups
 
       B : List ℕ
-      B = (projectOf F).blocks
+      B = (project_of F).blocks
 
       S : List ℕ
       S = L.state
@@ -165,17 +165,17 @@ module _ (F R : List ℕ) (L : Lent) where
       zero_number : refusal F R L ≡ 0
       zero_number = not-refused k e
 
-      done : cycleOf F R L ≡ leaves 0 (projectOf F) R L
+      done : cycle_of F R L ≡ leaves 0 (project_of F) R L
       done = call-done F R L zero_number
 
-      counted : k ≡ hits (blockCount B) (enters G B R S)
+      counted : k ≡ hits (block_count B) (enters G B R S)
       counted =
-          let same : Findings k ≡ Findings (hits (blockCount B) (enters G B R S)) =
+          let same : Findings k ≡ Findings (hits (block_count B) (enters G B R S)) =
           sym e ∙ ap (λ (l : Left). l.answer) done
           in cc
 
-      sound : Sound G B (inputCount (projectOf F).inputs)
+      sound : Sound G B (input_count (project_of F).inputs)
       sound = (call-taken F R L zero_number).sound
 
 pub demand2 : Demand2
-demand2 = record { cycles = cycled; fresh = λ F a. fresh-state-formed (projectOf F) (taken F (accepted F a)).sound }
+demand2 = record { cycles = cycled; fresh = λ F a. fresh-state-formed (project_of F) (taken F (accepted F a)).sound }

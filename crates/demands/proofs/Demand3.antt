@@ -8,33 +8,33 @@ use Rattle.wire.specs.Records.{gather}
 use Rattle.wire.specs.Places.{all}
 use Rattle.wire.specs.Tables.{row, first}
 use Rattle.wire.proofs.Places.{all_same}
-use Rattle.wire.proofs.Records.{gather-same}
-use Rattle.project.specs.Project.{Project, groupCount, blockCount, group_of, order_of, link_of, outputCount}
-use Rattle.project.specs.Project.{outputBlock}
-use Rattle.project.specs.Project.{outputPort, device}
+use Rattle.wire.proofs.Records.{gather_same}
+use Rattle.project.specs.Project.{Project, group_count, block_count, group_of, order_of, link_of, output_count}
+use Rattle.project.specs.Project.{output_block}
+use Rattle.project.specs.Project.{output_port, device}
 use Rattle.casefile.specs.Sound.{Sound, Shown}
 use Rattle.project.specs.Alike.{Alike}
 use Rattle.project.proofs.Alike.{blocks-same, kind-same, group-same, parameters-same, link-same}
 use Rattle.casefile.specs.declared.Verdict.TheVariants.{Accepted}
-use Rattle.casefile.specs.Bodies.{projectOf}
+use Rattle.casefile.specs.Bodies.{project_of}
 use Rattle.casefile.specs.Refusal.{verdict}
 use Rattle.casefile.proofs.Refusals.{accepted-zero}
-use Rattle.block.specs.Formed.{wellFormed}
-use Rattle.block.specs.State.{isError, entersFrom}
+use Rattle.block.specs.Formed.{well_formed}
+use Rattle.block.specs.State.{is_error, enters_from}
 use Rattle.block.specs.Shows.{shows}
-use Rattle.block.specs.Finding.{findingSize}
+use Rattle.block.specs.Finding.{finding_size}
 use Rattle.evaluator.specs.declared.Answer.TheVariants.{Findings}
 use Rattle.evaluator.specs.Net.{reads, seen}
-use Rattle.evaluator.specs.State.{cell, stateLength, findingsLength, headFormed, cellFormed, stateFormed}
-use Rattle.evaluator.specs.Groups.{erredIn, hasError, groupFrom, newGroup, phaseOf, phase}
+use Rattle.evaluator.specs.State.{cell, state_length, findings_length, head_formed, cell_formed, state_formed}
+use Rattle.evaluator.specs.Groups.{erred_in, has_error, group_from, new_group, phase_of, phase}
 use Rattle.wire.specs.Packed.{hits, packed}
-use Rattle.evaluator.specs.Cycle.{wires, turnedFrom, net, ran, newBlock, wordsRead, newHead, newState, outputWord}
-use Rattle.evaluator.specs.Cycle.{newOutputs, enters, findingFor, finding, findingCount, newFindings}
-use Rattle.evaluator.specs.Answer.{Lent, Left, sizesOk, recordOk, callRows, refusal, leaves, cycleOf}
+use Rattle.evaluator.specs.Cycle.{wires, turned_from, net, ran, new_block, words_read, new_head, new_state, output_word}
+use Rattle.evaluator.specs.Cycle.{new_outputs, enters, finding_for, finding, finding_count, new_findings}
+use Rattle.evaluator.specs.Answer.{Lent, Left, sizes_ok, record_ok, call_rows, refusal, leaves, cycle_of}
 use Rattle.evaluator.specs.Runs.{run}
 use Rattle.casefile.proofs.Accepted.{accepted}
 use Rattle.evaluator.proofs.Agree.{Same, agree, reads_same, ltb_iff}
-use Rattle.wire.proofs.Packing.{packed-same, hits-same}
+use Rattle.wire.proofs.Packing.{packed_same, hits_same}
 use Rattle.evaluator.proofs.Checking.{Taken, taken}
 use Rattle.evaluator.proofs.Calls.{refused-rows}
 use Rattle.demands.specs.Demands.{Demand3}
@@ -44,7 +44,7 @@ use Rattle.demands.specs.Demands.{Demand3}
 module _ (G I O : List ℕ) (P P' : Project) (alike : Alike P P') {n : ℕ}
     (g : Sound G P.blocks n) (g' : Sound G P'.blocks n) (w : Shown P.blocks O) where
   abbrev h : ℕ
-  h = groupCount G
+  h = group_count G
 
   abbrev B : List ℕ
   B = P.blocks
@@ -52,60 +52,60 @@ module _ (G I O : List ℕ) (P P' : Project) (alike : Alike P P') {n : ℕ}
   abbrev B' : List ℕ
   B' = P'.blocks
 
-  count : blockCount B ≡ blockCount B'
+  count : block_count B ≡ block_count B'
   count = blocks-same alike
 
   -- ---- the tests of a call
 
-  sizes-same : (L : Lent) → sizesOk (record { groups = G; inputs = I; blocks = B; outputs = O }) L
-      ≡ sizesOk (record { groups = G; inputs = I; blocks = B'; outputs = O }) L
-  unfolding sizesOk stateLength findingsLength
-  sizes-same L = rw count
+  sizes_same : (L : Lent) → sizes_ok (record { groups = G; inputs = I; blocks = B; outputs = O }) L
+      ≡ sizes_ok (record { groups = G; inputs = I; blocks = B'; outputs = O }) L
+  unfolding sizes_ok state_length findings_length
+  sizes_same L = rw count
 
-  cell-formed-same : (S : List ℕ) (b : ℕ) → cellFormed h B S b ≡ cellFormed h B' S b
-  unfolding cellFormed
-  cell-formed-same S b = λ i. wellFormed (kind-same alike b i) (parameters-same alike b i) (cell h S b)
+  cell-formed-same : (S : List ℕ) (b : ℕ) → cell_formed h B S b ≡ cell_formed h B' S b
+  unfolding cell_formed
+  cell-formed-same S b = λ i. well_formed (kind-same alike b i) (parameters-same alike b i) (cell h S b)
 
-  formed-same : (S : List ℕ) → stateFormed G B S ≡ stateFormed G B' S
-  unfolding stateFormed
+  formed-same : (S : List ℕ) → state_formed G B S ≡ state_formed G B' S
+  unfolding state_formed
   formed-same S =
-      ap (λ (t : Bool). all (headFormed S) h && t)
-      (all_same (cellFormed h B S) (cellFormed h B' S) (blockCount B) (λ b _. cell-formed-same S b)
-      ∙ ap (all (cellFormed h B' S)) count)
+      ap (λ (t : Bool). all (head_formed S) h && t)
+      (all_same (cell_formed h B S) (cell_formed h B' S) (block_count B) (λ b _. cell-formed-same S b)
+      ∙ ap (all (cell_formed h B' S)) count)
 
   -- ---- one cycle
 
   module _ (R S : List ℕ) where
-    erred-same : (k : ℕ) → hasError h B S k ≡ hasError h B' S k
-    unfolding hasError erredIn
+    erred-same : (k : ℕ) → has_error h B S k ≡ has_error h B' S k
+    unfolding has_error erred_in
     erred-same k =
         ap not
-        (all_same (λ b. not (erredIn h B S k b)) (λ b. not (erredIn h B' S k b)) (blockCount B)
-        (λ b l i. not (eqb (group-same alike b i) k && isError (cell h S b)))
-        ∙ ap (all (λ b. not (erredIn h B' S k b))) count)
+        (all_same (λ b. not (erred_in h B S k b)) (λ b. not (erred_in h B' S k b)) (block_count B)
+        (λ b l i. not (eqb (group-same alike b i) k && is_error (cell h S b)))
+        ∙ ap (all (λ b. not (erred_in h B' S k b))) count)
 
-    new-group-same : (k : ℕ) → newGroup G B R S k ≡ newGroup G B' R S k
-    unfolding newGroup
-    new-group-same k = ap (λ (t : Bool). groupFrom (device G) t R S k) (erred-same k)
+    new-group-same : (k : ℕ) → new_group G B R S k ≡ new_group G B' R S k
+    unfolding new_group
+    new-group-same k = ap (λ (t : Bool). group_from (device G) t R S k) (erred-same k)
 
     phase-same : (k : ℕ) → phase G B R S k ≡ phase G B' R S k
     unfolding phase
-    phase-same k = ap (λ (x : ℕ). phaseOf G R x k) (new-group-same k)
+    phase-same k = ap (λ (x : ℕ). phase_of G R x k) (new-group-same k)
 
     turned_same : (ph b : ℕ) (s : List ℕ) (f : ℕ → ℕ) →
-        turnedFrom B R ph b s f ≡ turnedFrom B' R ph b s f
-    unfolding turnedFrom
+        turned_from B R ph b s f ≡ turned_from B' R ph b s f
+    unfolding turned_from
     turned_same ph b s f = rw (kind-same alike b, group-same alike b, parameters-same alike b)
 
     step_same : (b : ℕ) (s : List ℕ) (f : ℕ → ℕ) →
-        turnedFrom B R (phase G B R S (group_of B b)) b s f
-        ≡ turnedFrom B' R (phase G B' R S (group_of B' b)) b s f
+        turned_from B R (phase G B R S (group_of B b)) b s f
+        ≡ turned_from B' R (phase G B' R S (group_of B' b)) b s f
     step_same b s f =
         turned_same (phase G B R S (group_of B b)) b s f
-        ∙ ap (λ (ph : ℕ). turnedFrom B' R ph b s f)
+        ∙ ap (λ (ph : ℕ). turned_from B' R ph b s f)
         (phase-same (group_of B b) ∙ ap (phase G B' R S) (group-same alike b))
 
-    nets : Same (λ b. b < blockCount B) (net h B R (phase G B R S)) (net h B' R (phase G B' R S)) (order_of B)
+    nets : Same (λ b. b < block_count B) (net h B R (phase G B R S)) (net h B' R (phase G B' R S)) (order_of B)
         (order_of B')
         (cell h S) (cell h S)
     unfolding net wires
@@ -121,79 +121,79 @@ module _ (G I O : List ℕ) (P P' : Project) (alike : Alike P P') {n : ℕ}
           (alike.along b p a q l e);
     }
 
-    block_same : (b : ℕ) → b < blockCount B → newBlock G B R S b ≡ newBlock G B' R S b
-    unfolding newBlock ran
+    block_same : (b : ℕ) → b < block_count B → new_block G B R S b ≡ new_block G B' R S b
+    unfolding new_block ran
     block_same b l =
-        agree (λ b. b < blockCount B) (net h B R (phase G B R S)) (net h B' R (phase G B' R S))
+        agree (λ b. b < block_count B) (net h B R (phase G B R S)) (net h B' R (phase G B' R S))
         (order_of B) (order_of B')
-        (cell h S) (cell h S) nets (blockCount B) (blockCount B') b l (g.orderBelow b l)
-        (g'.orderBelow b (rw count at l))
+        (cell h S) (cell h S) nets (block_count B) (block_count B') b l (g.order_below b l)
+        (g'.order_below b (rw count at l))
 
-    words_same : (b : ℕ) → b < blockCount B → wordsRead G B R S b ≡ wordsRead G B' R S b
-    unfolding wordsRead net wires
+    words_same : (b : ℕ) → b < block_count B → words_read G B R S b ≡ words_read G B' R S b
+    unfolding words_read net wires
     words_same b l =
         fun_ext (λ p.
-        reads_same (λ b. b < blockCount B) (net h B R (phase G B R S)) (net h B' R (phase G B' R S)) (order_of B)
-        (order_of B') (cell h S) (cell h S) nets b p l (newBlock G B R S) (newBlock G B' R S)
+        reads_same (λ b. b < block_count B) (net h B R (phase G B R S)) (net h B' R (phase G B' R S)) (order_of B)
+        (order_of B') (cell h S) (cell h S) nets b p l (new_block G B R S) (new_block G B' R S)
         (λ a k _ _. block_same a k)
         (link_of B b p) refl
-        ∙ ap (reads (wires h B' R) (seen (order_of B') (cell h S) (newBlock G B' R S) b)) (link-same alike b p))
+        ∙ ap (reads (wires h B' R) (seen (order_of B') (cell h S) (new_block G B' R S) b)) (link-same alike b p))
 
-    head-same : newHead G B R S ≡ newHead G B' R S
-    unfolding newHead
+    head-same : new_head G B R S ≡ new_head G B' R S
+    unfolding new_head
     head-same =
-        gather-same h (λ k. newGroup G B R S k ∷ []) (λ k. newGroup G B' R S k ∷ [])
+        gather_same h (λ k. new_group G B R S k ∷ []) (λ k. new_group G B' R S k ∷ [])
         (λ k _ i. new-group-same k i ∷ [])
 
-    state-same : newState G B R S ≡ newState G B' R S
-    unfolding newState
+    state-same : new_state G B R S ≡ new_state G B' R S
+    unfolding new_state
     state-same =
         ap₂ (λ (x y : List ℕ). x ++ y) head-same
-        (gather-same (blockCount B) (newBlock G B R S) (newBlock G B' R S) block_same
-        ∙ ap (λ (n : ℕ). gather n (newBlock G B' R S)) count)
+        (gather_same (block_count B) (new_block G B R S) (new_block G B' R S) block_same
+        ∙ ap (λ (n : ℕ). gather n (new_block G B' R S)) count)
 
-    output-same : (o : ℕ) → o < outputCount O → outputWord G B O R S o ≡ outputWord G B' O R S o
-    unfolding outputWord
+    output-same : (o : ℕ) → o < output_count O → output_word G B O R S o ≡ output_word G B' O R S o
+    unfolding output_word
     output-same o l =
-        let a = outputBlock O o in
-        λ i. shows (kind-same alike a i) (parameters-same alike a i) (outputPort O o) (block_same a (w.block o l) i)
+        let a = output_block O o in
+        λ i. shows (kind-same alike a i) (parameters-same alike a i) (output_port O o) (block_same a (w.block o l) i)
 
-    outputs-same : newOutputs G B O R S ≡ newOutputs G B' O R S
-    unfolding newOutputs
+    outputs-same : new_outputs G B O R S ≡ new_outputs G B' O R S
+    unfolding new_outputs
     outputs-same =
-        gather-same (outputCount O) (λ o. bytes4 (outputWord G B O R S o)) (λ o. bytes4 (outputWord G B' O R S o))
+        gather_same (output_count O) (λ o. bytes4 (output_word G B O R S o)) (λ o. bytes4 (output_word G B' O R S o))
         (λ o l. ap bytes4 (output-same o l))
 
-    enters-same : (b : ℕ) → b < blockCount B → enters G B R S b ≡ enters G B' R S b
+    enters-same : (b : ℕ) → b < block_count B → enters G B R S b ≡ enters G B' R S b
     unfolding enters
-    enters-same b l = ap (entersFrom (cell h S b)) (block_same b l)
+    enters-same b l = ap (enters_from (cell h S b)) (block_same b l)
 
-    finding-same : (b : ℕ) → b < blockCount B → finding G B R S b ≡ finding G B' R S b
-    unfolding finding findingFor
-    finding-same b l = ap₂ (findingFor B b) (words_same b l) (block_same b l) ∙ by-record
+    finding-same : (b : ℕ) → b < block_count B → finding G B R S b ≡ finding G B' R S b
+    unfolding finding finding_for
+    finding-same b l = ap₂ (finding_for B b) (words_same b l) (block_same b l) ∙ by-record
       where
-        by-record : findingFor B b (wordsRead G B' R S b) (newBlock G B' R S b)
-            ≡ findingFor B' b (wordsRead G B' R S b) (newBlock G B' R S b)
+        by-record : finding_for B b (words_read G B' R S b) (new_block G B' R S b)
+            ≡ finding_for B' b (words_read G B' R S b) (new_block G B' R S b)
         by-record = rw (kind-same alike b, group-same alike b, parameters-same alike b)
 
-    count_same : findingCount G B R S ≡ findingCount G B' R S
-    unfolding findingCount
+    count_same : finding_count G B R S ≡ finding_count G B' R S
+    unfolding finding_count
     count_same =
-        hits-same (blockCount B) (enters G B R S) (enters G B' R S) enters-same
+        hits_same (block_count B) (enters G B R S) (enters G B' R S) enters-same
         ∙ ap (λ (n : ℕ). hits n (enters G B' R S)) count
 
-    findings-same : newFindings G B R S ≡ newFindings G B' R S
-    unfolding newFindings
+    findings-same : new_findings G B R S ≡ new_findings G B' R S
+    unfolding new_findings
     findings-same =
-        packed-same (findingSize * blockCount B) (blockCount B) (enters G B R S) (enters G B' R S) (finding G B R S)
+        packed_same (finding_size * block_count B) (block_count B) (enters G B R S) (enters G B' R S) (finding G B R S)
         (finding G B' R S) enters-same (λ b l _. finding-same b l)
-        ∙ ap (λ (n : ℕ). packed (findingSize * n) n (enters G B' R S) (finding G B' R S)) count
+        ∙ ap (λ (n : ℕ). packed (finding_size * n) n (enters G B' R S) (finding G B' R S)) count
 
   -- ---- a call
 
-  rows_same : (R : List ℕ) (L : Lent) → callRows (record { groups = G; inputs = I; blocks = B; outputs = O }) R L
-      ≡ callRows (record { groups = G; inputs = I; blocks = B'; outputs = O }) R L
-  rows_same R L = λ i. row 10 (sizes-same L i) ∷ row 11 (formed-same L.state i) ∷ row 12 (recordOk G I R) ∷ []
+  rows_same : (R : List ℕ) (L : Lent) → call_rows (record { groups = G; inputs = I; blocks = B; outputs = O }) R L
+      ≡ call_rows (record { groups = G; inputs = I; blocks = B'; outputs = O }) R L
+  rows_same R L = λ i. row 10 (sizes_same L i) ∷ row 11 (formed-same L.state i) ∷ row 12 (record_ok G I R) ∷ []
 
   leaves-same : (R : List ℕ) (L : Lent) (m : ℕ) →
       leaves m (record { groups = G; inputs = I; blocks = B; outputs = O }) R L
@@ -215,12 +215,12 @@ abbrev with_blocks : Project → List ℕ → Project
 with_blocks P B = record { groups = P.groups; inputs = P.inputs; blocks = B; outputs = P.outputs }
 
 module _ (F F' : List ℕ) (ok : verdict F ≡ Accepted) (ok' : verdict F' ≡ Accepted)
-    (alike : Alike (projectOf F) (projectOf F')) where
+    (alike : Alike (project_of F) (project_of F')) where
   abbrev P : Project
-  P = projectOf F
+  P = project_of F
 
   abbrev P' : Project
-  P' = projectOf F'
+  P' = project_of F'
 
   t : Taken P
   t = taken F (accepted F ok)
@@ -243,9 +243,9 @@ module _ (F F' : List ℕ) (ok : verdict F ≡ Accepted) (ok' : verdict F' ≡ A
       ∙ ap first (rows_same P.groups P.inputs P.outputs P P' alike t.sound t'.sound t.shown R L)
       ∙ refused-rows F' R L (accepted-zero F' ok') (with_blocks P P'.blocks) other
 
-  cycle-same : (R : List ℕ) (L : Lent) → cycleOf F R L ≡ cycleOf F' R L
-  unfolding cycleOf
-  cycle-same R L =
+  cycle_same : (R : List ℕ) (L : Lent) → cycle_of F R L ≡ cycle_of F' R L
+  unfolding cycle_of
+  cycle_same R L =
       leaves-same P.groups P.inputs P.outputs P P' alike t.sound t'.sound t.shown R L
       (refusal F R L)
       ∙ ap₂ (λ (n : ℕ) (p : Project). leaves n p R L) (refusal-same R L) other
@@ -254,8 +254,8 @@ module _ (F F' : List ℕ) (ok : verdict F ≡ Accepted) (ok' : verdict F' ≡ A
   unfolding run
   run-same [] L = refl
   run-same (R ∷ Rs) L =
-      ap₂ (λ (x : Left) (xs : List Left). x ∷ xs) (cycle-same R L)
-      (run-same Rs (cycleOf F R L).lent ∙ ap (λ (x : Left). run F' Rs x.lent) (cycle-same R L))
+      ap₂ (λ (x : Left) (xs : List Left). x ∷ xs) (cycle_same R L)
+      (run-same Rs (cycle_of F R L).lent ∙ ap (λ (x : Left). run F' Rs x.lent) (cycle_same R L))
 
 pub demand3 : Demand3
 unfolding Demand3

@@ -2,24 +2,24 @@
 -- bits and the two bends. Assumes nothing.
 use Rattle.wire.proofs.Usual.{◌≡◌, refl}
 use lib.Ieee.{div, of_int, round, to_bits, of_bits, eq}
-use Rattle.wire.specs.Places.{firstBad, all}
+use Rattle.wire.specs.Places.{first_bad, all}
 use Rattle.wire.specs.Tables.{first}
 use Rattle.wire.specs.Packed.{hits}
-use Rattle.contents.specs.Contents.{bodyStart, bodySize, body_of, followsOk, contentsOk}
-use Rattle.report.specs.Decimal.{digitsWithin, decimal}
-use Rattle.report.specs.LedgerLines.{hexadecimal, monthFront, rateLine, noRateLine, bendLine}
+use Rattle.contents.specs.Contents.{body_start, body_size, body_of, follows_ok, contents_ok}
+use Rattle.report.specs.Decimal.{digits_within, decimal}
+use Rattle.report.specs.LedgerLines.{hexadecimal, month_front, rate_line, no_rate_line, bend_line}
 use Rattle.report.specs.Samples.{codes}
-use Rattle.year.specs.Ledger.{findingCount, findingAt, valuesOk, keptIn, monthsOk, ledgerTable, ledgerNumber}
+use Rattle.year.specs.Ledger.{finding_count, finding_at, values_ok, kept_in, months_ok, ledger_table, ledger_number}
 use Rattle.year.specs.Months.{found, dismissed, line_of, share_of}
-use Rattle.year.specs.Bends.{sum_of, poolOf, sidesAt, larger, largest, bendOf}
-use Rattle.year.specs.Year.{monthLine, lines_of as tableLines, table_of, yearOf}
-use Rattle.yearbook.specs.Text.{monthText, monthsText, tableText, yearText, ledgerText}
-use Rattle.demands.specs.LedgerExample.{exampleLedger, lines_of, examplePrints}
+use Rattle.year.specs.Bends.{sum_of, pool_of, sides_at, larger, largest, bend_of}
+use Rattle.year.specs.Year.{month_line, lines_of as table_lines, table_of, year_of}
+use Rattle.yearbook.specs.Text.{month_text, months_text, table_text, year_text, ledger_text}
+use Rattle.demands.specs.LedgerExample.{example_ledger, lines_of, example_prints}
 
-pub example-text : ledgerText exampleLedger ≡ examplePrints
-unfolding exampleLedger lines_of codes ledgerText yearText tableText monthsText monthText yearOf table_of tableLines
-    monthLine bendOf largest larger sidesAt poolOf sum_of line_of share_of found dismissed ledgerNumber ledgerTable
-    monthsOk keptIn valuesOk findingAt findingCount bendLine noRateLine rateLine monthFront hexadecimal decimal
-    digitsWithin contentsOk followsOk body_of bodySize bodyStart hits first all firstBad div of_int round to_bits
+pub example_text : ledger_text example_ledger ≡ example_prints
+unfolding example_ledger lines_of codes ledger_text year_text table_text months_text month_text year_of table_of table_lines
+    month_line bend_of largest larger sides_at pool_of sum_of line_of share_of found dismissed ledger_number ledger_table
+    months_ok kept_in values_ok finding_at finding_count bend_line no_rate_line rate_line month_front hexadecimal decimal
+    digits_within contents_ok follows_ok body_of body_size body_start hits first all first_bad div of_int round to_bits
     of_bits eq
-example-text = refl
+example_text = refl

@@ -14,38 +14,38 @@ use Rattle.year.specs.declared.Share.{Share}
 use Rattle.year.specs.declared.Share.TheVariants.{Rate, Nothing}
 use Rattle.year.specs.declared.Bend.{Bend}
 use Rattle.year.specs.declared.Bend.TheVariants.{After, Nothing as NoBend}
-use Rattle.year.specs.Ledger.{monthCount, monthMost, ledgerTable, ledgerNumber}
-use Rattle.year.specs.Months.{found, dismissed, rateOf, line_of, share_of, bits_of}
-use Rattle.year.specs.Bends.{noLine, sum_of, line_at, poolOf, sidesAt, bothSides, largest, bendOf}
-use Rattle.year.specs.Year.{monthLine, lines_of, table_of, noTable, yearOf}
+use Rattle.year.specs.Ledger.{month_count, month_most, ledger_table, ledger_number}
+use Rattle.year.specs.Months.{found, dismissed, rate_of, line_of, share_of, bits_of}
+use Rattle.year.specs.Bends.{no_line, sum_of, line_at, pool_of, sides_at, both_sides, largest, bend_of}
+use Rattle.year.specs.Year.{month_line, lines_of, table_of, no_table, year_of}
 use Rattle.year.specs.Asks.{Counted}
-use Rattle.year.proofs.Filling.{getD-from}
-use Rattle.year.proofs.Rates.{rate-nearest, rate-none, none-rate, rate-all, all-rate, round-bits}
-use Rattle.year.proofs.Sums.{sides-small, sum-some, some-sum}
-use Rattle.year.proofs.Bending.{Topped, tops, found as top-found, nothing as top-none, larger-literal}
+use Rattle.year.proofs.Filling.{get_or_from}
+use Rattle.year.proofs.Rates.{rate-nearest, rate-none, none-rate, rate-all, all-rate, round_bits}
+use Rattle.year.proofs.Sums.{sides-small, sum_some, some_sum}
+use Rattle.year.proofs.Bending.{Topped, tops, found as top-found, nothing as top-none, larger_literal}
 use Rattle.year.proofs.Taken.{taken-small, lines-counted, line-is, found-most, dismissed-part}
-use Rattle.year.proofs.Nearness.{round-nearest}
+use Rattle.year.proofs.Nearness.{round_nearest}
 use Rattle.year.proofs.WithoutScript.{body-without, without-script}
 use Rattle.demands.specs.Demands.{rising}
 use Rattle.demands.specs.Ledgers.{NoTable, LedgerAnswered, Shared, Lined, Bent, TwoMonths, BendFound, Ledgers}
-use Rattle.demands.proofs.Demand1.{by-table}
+use Rattle.demands.proofs.Demand1.{by_table}
 
 -- ---- the number
 
-no-share : share_of (line_of 0 0) ≡ Nothing
+no_share : share_of (line_of 0 0) ≡ Nothing
 unfolding share_of line_of
-no-share = refl
+no_share = refl
 
-no_table : NoTable noTable
-unfolding noTable
-no_table = record { line = λ m l. getD-from noLine 0 monthCount m (λ _. line_of 0 0) l; share = no-share; bend = refl }
+no_table : NoTable no_table
+unfolding no_table
+no_table = record { line = λ m l. get_or_from no_line 0 month_count m (λ _. line_of 0 0) l; share = no_share; bend = refl }
 
 answered : (F : List ℕ) → LedgerAnswered F
-unfolding yearOf ledgerNumber ledgerTable rising
+unfolding year_of ledger_number ledger_table rising
 answered F = record {
-  number = by-table (ledgerTable F) refl refl;
-  refused = λ h. rw (ne_eqb (ledgerNumber F) 0 h) (no_table, no_table);
-  accepted = λ z. rw (eq-eqb (ledgerNumber F) 0 z) (refl, refl);
+  number = by_table (ledger_table F) refl refl;
+  refused = λ h. rw (ne_eqb (ledger_number F) 0 h) (no_table, no_table);
+  accepted = λ z. rw (eq-eqb (ledger_number F) 0 z) (refl, refl);
 }
 
 -- ---- a line
@@ -55,16 +55,16 @@ abbrev carried : Share → Float
 carried (Rate x) = x
 carried Nothing = fin true 0 (pos 0)
 
-abbrev is-rate : Share → Bool
-is-rate (Rate x) = true
-is-rate Nothing = false
+abbrev is_rate : Share → Bool
+is_rate (Rate x) = true
+is_rate Nothing = false
 
-module _ (n d : ℕ) (few : n ≤ monthMost) (part : d ≤ n) where
+module _ (n d : ℕ) (few : n ≤ month_most) (part : d ≤ n) where
   share-none : n ≡ 0 → share_of (line_of n d) ≡ Nothing
   unfolding share_of line_of
   share-none e = rw (eq-eqb n 0 e)
 
-  share-some : 0 < n → share_of (line_of n d) ≡ Rate (rateOf n d)
+  share-some : 0 < n → share_of (line_of n d) ≡ Rate (rate_of n d)
   unfolding share_of line_of
   share-some l = rw (ne_eqb n 0 (λ z. omega (arith, z)))
 
@@ -72,7 +72,7 @@ module _ (n d : ℕ) (few : n ≤ monthMost) (part : d ≤ n) where
   shared = record {
     none = (only (dec_lt 0 n), share-none);
     rounded = λ l. share-some l ∙ ap Rate (nearest l);
-    nearest = λ l. round-nearest d n l part;
+    nearest = λ l. round_nearest d n l part;
     zero = λ l. (
       λ e. none-rate n d l (omega arith) part (ap carried (sym (share-some l) ∙ e)),
       λ e. share-some l ∙ ap Rate (rate-none n d l (omega arith) part e),
@@ -81,21 +81,21 @@ module _ (n d : ℕ) (few : n ≤ monthMost) (part : d ≤ n) where
       λ e. all-rate n d l (omega arith) part (ap carried (sym (share-some l) ∙ e)),
       λ e. share-some l ∙ ap Rate (rate-all n d l (omega arith) part e),
     );
-    bits = λ l. ap bits_of (share-some l ∙ ap Rate (nearest l)) ∙ round-bits d n;
+    bits = λ l. ap bits_of (share-some l ∙ ap Rate (nearest l)) ∙ round_bits d n;
   }
     where
-      nearest : 0 < n → rateOf n d ≡ round binary64 false d n
+      nearest : 0 < n → rate_of n d ≡ round binary64 false d n
       nearest l = rate-nearest n d l (omega arith) part
 
       only : Dec (0 < n) → share_of (line_of n d) ≡ Nothing → n ≡ 0
-      only (yes l) e = absurd (true≢false (ap is-rate (sym (share-some l) ∙ e)))
+      only (yes l) e = absurd (true≢false (ap is_rate (sym (share-some l) ∙ e)))
       only (no x) e = omega (arith, x)
 
-no-rate : (n d : ℕ) → n ≡ 0 → (line_of n d).rate ≡ fin false 0 (pos 0)
+no_rate : (n d : ℕ) → n ≡ 0 → (line_of n d).rate ≡ fin false 0 (pos 0)
 unfolding line_of of_bits
-no-rate n d e = rw (eq-eqb n 0 e) refl
+no_rate n d e = rw (eq-eqb n 0 e) refl
 
-line_made : (c : Closings) (F : List ℕ) (m : ℕ) → found c (body_of F m) ≤ monthMost →
+line_made : (c : Closings) (F : List ℕ) (m : ℕ) → found c (body_of F m) ≤ month_most →
     Lined c F m (line_of (found c (body_of F m)) (dismissed c (body_of F m)))
 unfolding line_of
 line_made c F m few = record {
@@ -104,35 +104,35 @@ line_made c F m few = record {
   few = few;
   part = dismissed-part c F m;
   share = shared (found c (body_of F m)) (dismissed c (body_of F m)) few (dismissed-part c F m);
-  field = no-rate (found c (body_of F m)) (dismissed c (body_of F m));
+  field = no_rate (found c (body_of F m)) (dismissed c (body_of F m));
 }
 
-lined : (c : Closings) (F : List ℕ) → ledgerNumber F ≡ 0 → (m : ℕ) → m < monthCount →
+lined : (c : Closings) (F : List ℕ) → ledger_number F ≡ 0 → (m : ℕ) → m < month_count →
     Lined c F m (line_at (table_of c F).lines m)
-unfolding table_of monthLine
+unfolding table_of month_line
 lined c F z m l =
-    let few : found c (body_of F m) ≤ monthMost = omega (arith, found-most c F m, (taken-small F z).month m l) in
+    let few : found c (body_of F m) ≤ month_most = omega (arith, found-most c F m, (taken-small F z).month m l) in
     subst (Lined c F m) (sym (line-is c F m l)) (line_made c F m few)
 
 -- ---- the bend
 
-abbrev month-told : Bend → ℕ
-month-told (After m) = m
-month-told NoBend = 0
+abbrev month_told : Bend → ℕ
+month_told (After m) = m
+month_told NoBend = 0
 
 module _ (L : List Line) where
   -- the loop's answer over all months, and what it says of the definition
-  top : Topped (sidesAt L) monthCount monthCount
-  top = tops (sidesAt L) monthCount monthCount (le_refl monthCount)
+  top : Topped (sides_at L) month_count month_count
+  top = tops (sides_at L) month_count month_count (le_refl month_count)
 
   -- a month with a finding on each side
-  two-sides : (m : ℕ) → m < monthCount → bothSides (sidesAt L m) ≡ true → TwoMonths L
-  unfolding sidesAt poolOf
+  two-sides : (m : ℕ) → m < month_count → both_sides (sides_at L m) ≡ true → TwoMonths L
+  unfolding sides_at pool_of
   two-sides m l h =
-      let s = sidesAt L m in
+      let s = sides_at L m in
       let f : ℕ → ℕ = λ k. (line_at L k).findings in
-      let early = sum-some f 0 (m + 1) (ltb-true 0 _ (both_left (ltb 0 s.upto.findings) _ h)) in
-      let late = sum-some f (m + 1) (monthCount - (m + 1))
+      let early = sum_some f 0 (m + 1) (ltb-true 0 _ (both_left (ltb 0 s.upto.findings) _ h)) in
+      let late = sum_some f (m + 1) (month_count - (m + 1))
       (ltb-true 0 _ (both_right (ltb 0 s.upto.findings) _ h)) in
       record {
         first = early.place;
@@ -143,19 +143,19 @@ module _ (L : List Line) where
         others = late.some;
       }
 
-  sides-two : (w : TwoMonths L) → bothSides (sidesAt L w.first) ≡ true
-  unfolding sidesAt poolOf
+  sides-two : (w : TwoMonths L) → both_sides (sides_at L w.first) ≡ true
+  unfolding sides_at pool_of
   sides-two w =
       let f : ℕ → ℕ = λ k. (line_at L k).findings in
-      let early = some-sum f 0 (w.first + 1) w.first (omega arith) (omega arith) in
-      let late = some-sum f (w.first + 1) (monthCount - (w.first + 1)) w.second
+      let early = some_sum f 0 (w.first + 1) w.first (omega arith) (omega arith) in
+      let late = some_sum f (w.first + 1) (month_count - (w.first + 1)) w.second
       (omega (arith, w.apart)) (omega (arith, w.apart, w.month)) in
       rw (
         lt-ltb 0 (sum_of f 0 (w.first + 1)) (omega (arith, early, w.findings)),
-        lt-ltb 0 (sum_of f (w.first + 1) (monthCount - (w.first + 1))) (omega (arith, late, w.others)),
+        lt-ltb 0 (sum_of f (w.first + 1) (month_count - (w.first + 1))) (omega (arith, late, w.others)),
       )
 
-  module _ (t : Topped (sidesAt L) monthCount monthCount) where
+  module _ (t : Topped (sides_at L) month_count month_count) where
     top-bent : t.has ≡ true → Bent L t.b
     top-bent e = record {
       month = t.is-top.below e;
@@ -164,25 +164,25 @@ module _ (L : List Line) where
       earliest = t.is-top.first e;
     }
 
-    bend-some : t.has ≡ true → bendOf L ≡ After (t.b + 1)
-    unfolding bendOf largest
+    bend-some : t.has ≡ true → bend_of L ≡ After (t.b + 1)
+    unfolding bend_of largest
     bend-some e =
         rw (
-          ← top-found (sidesAt L) monthCount t.has t.b t.top monthCount t.is-top (le_refl monthCount) e,
+          ← top-found (sides_at L) month_count t.has t.b t.top month_count t.is-top (le_refl month_count) e,
           lt-ltb _ _ (t.is-top.below e),
         )
 
-    bend-none : t.has ≡ false → bendOf L ≡ NoBend
-    unfolding bendOf largest
+    bend-none : t.has ≡ false → bend_of L ≡ NoBend
+    unfolding bend_of largest
     bend-none e =
-        rw (← top-none (sidesAt L) monthCount t.has t.b t.top monthCount t.is-top (le_refl monthCount) e)
+        rw (← top-none (sides_at L) month_count t.has t.b t.top month_count t.is-top (le_refl month_count) e)
 
     -- by whether one was found
-    after : (m : ℕ) (x : Bool) → t.has ≡ x → bendOf L ≡ After (m + 1) → Bent L m
+    after : (m : ℕ) (x : Bool) → t.has ≡ x → bend_of L ≡ After (m + 1) → Bent L m
     after m true e h =
-        let same : t.b ≡ m = omega (arith, ap month-told (sym (bend-some e) ∙ h)) in
+        let same : t.b ≡ m = omega (arith, ap month_told (sym (bend-some e) ∙ h)) in
         subst (Bent L) same (top-bent e)
-    after m false e h = absurd (omega (arith, ap month-told (sym (bend-none e) ∙ h)))
+    after m false e h = absurd (omega (arith, ap month_told (sym (bend-none e) ∙ h)))
 
     bent-top : (m : ℕ) (x : Bool) → t.has ≡ x → Bent L m → t.b ≡ m
     bent-top m true e w = go (dec_lt t.b m) (dec_lt m t.b)
@@ -197,25 +197,25 @@ module _ (L : List Line) where
         go (no x) (no y) = omega (arith, x, y)
     bent-top m false e w = absurd (true≢false (sym w.sides ∙ t.is-top.none e m w.month))
 
-    bent : (m : ℕ) (x : Bool) → t.has ≡ x → Bent L m → bendOf L ≡ After (m + 1)
+    bent : (m : ℕ) (x : Bool) → t.has ≡ x → Bent L m → bend_of L ≡ After (m + 1)
     bent m true e w = bend-some e ∙ ap (λ (k : ℕ). After (k + 1)) (bent-top m true e w)
     bent m false e w = absurd (true≢false (sym w.sides ∙ t.is-top.none e m w.month))
 
-    no_sides : (x : Bool) → t.has ≡ x → bendOf L ≡ NoBend →
-        (m : ℕ) → m < monthCount → bothSides (sidesAt L m) ≡ false
-    no_sides true e h m l = absurd (omega (arith, ap month-told (sym (bend-some e) ∙ h)))
+    no_sides : (x : Bool) → t.has ≡ x → bend_of L ≡ NoBend →
+        (m : ℕ) → m < month_count → both_sides (sides_at L m) ≡ false
+    no_sides true e h m l = absurd (omega (arith, ap month_told (sym (bend-some e) ∙ h)))
     no_sides false e h m l = t.is-top.none e m l
 
     sides-none : (x : Bool) → t.has ≡ x →
-        ((m : ℕ) → m < monthCount → bothSides (sidesAt L m) ≡ false) → bendOf L ≡ NoBend
+        ((m : ℕ) → m < month_count → both_sides (sides_at L m) ≡ false) → bend_of L ≡ NoBend
     sides-none true e h = absurd (true≢false (sym (t.is-top.good e) ∙ h t.b (t.is-top.below e)))
     sides-none false e h = bend-none e
 
-    bend-two : (x : Bool) → t.has ≡ x → bendOf L ≢ NoBend → TwoMonths L
+    bend-two : (x : Bool) → t.has ≡ x → bend_of L ≢ NoBend → TwoMonths L
     bend-two true e h = two-sides t.b (t.is-top.below e) (t.is-top.good e)
     bend-two false e h = absurd (h (bend-none e))
 
-    two-bend : TwoMonths L → bendOf L ≢ NoBend
+    two-bend : TwoMonths L → bend_of L ≢ NoBend
     two-bend w h =
         true≢false (sym (sides-two w) ∙ no_sides t.has refl h w.first (omega (arith, w.apart, w.month)))
 
@@ -224,7 +224,7 @@ module _ (L : List Line) where
     after = λ m. (after top m top.has refl, bent top m top.has refl);
     none = (no_sides top top.has refl, sides-none top top.has refl);
     two = (bend-two top top.has refl, two-bend top);
-    compared = λ k m p q. larger-literal (sidesAt L k) (sidesAt L m)
+    compared = λ k m p q. larger_literal (sides_at L k) (sides_at L m)
         (sides-small L c k p).upto.part (sides-small L c m q).upto.part;
   }
 

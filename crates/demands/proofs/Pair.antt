@@ -5,35 +5,35 @@ use Rattle.wire.proofs.Usual.{◌≡◌, refl, sym, ap, ◌∙◌, Bool, true, f
 use Rattle.wire.proofs.Usual.{ℕ, ◌/◌, ◌%◌, ◌<◌, ◌≤◌, dec_lt, arith, ltb, eqb, eqb-true, lt-ltb, ltb-true, length}
 use mathlib.Core.Logic.{◌↔◌}
 use lib.ListN.{get_or-eq_default}
-use Rattle.wire.specs.Words.{byteAt}
-use Rattle.wire.specs.Places.{all, firstBad}
-use Rattle.wire.proofs.Places.{all-each}
-use Rattle.contents.specs.Contents.{bodyStart, bodySize, body_of, followsOk, contentsOk}
+use Rattle.wire.specs.Words.{byte_at}
+use Rattle.wire.specs.Places.{all, first_bad}
+use Rattle.wire.proofs.Places.{all_each}
+use Rattle.contents.specs.Contents.{body_start, body_size, body_of, follows_ok, contents_ok}
 use Rattle.project.specs.declared.Source.{Source}
 use Rattle.project.specs.declared.Source.TheVariants.{Nothing, External, Output}
-use Rattle.project.specs.Project.{Project, row_of, blockSize, blockCount, orderPlace, order_of, linkCount, link_in}
+use Rattle.project.specs.Project.{Project, row_of, block_size, block_count, order_place, order_of, link_count, link_in}
 use Rattle.project.specs.Project.{link_of}
 use Rattle.project.specs.Alike.{IsOrderByte, Alike}
-use Rattle.project.proofs.Alike.{past-links}
-use Rattle.casefile.specs.Bodies.{bodyIn, projectOf}
+use Rattle.project.proofs.Alike.{past_links}
+use Rattle.casefile.specs.Bodies.{body_in, project_of}
 use Rattle.evaluator.specs.Answer.{Lent}
 use Rattle.evaluator.specs.Runs.{run}
 use Rattle.demands.specs.Demands.{Demand3}
-use Rattle.demands.specs.Examples.{asNumbered, otherwise}
-use Rattle.demands.proofs.Accepted.{accepted-all}
+use Rattle.demands.specs.Examples.{as_numbered, otherwise}
+use Rattle.demands.proofs.Accepted.{accepted_all}
 use Rattle.demands.proofs.Demand3.{demand3}
 
 abbrev P : Project
-P = projectOf asNumbered
+P = project_of as_numbered
 
 abbrev P' : Project
-P' = projectOf otherwise
+P' = project_of otherwise
 
 -- ---- what is computed
 
 -- byte i of the blocks is that of an execution number, or the same in both
-byteSame : ℕ → Bool
-byteSame i = eqb (i % blockSize) orderPlace || eqb (byteAt P.blocks i) (byteAt P'.blocks i)
+byte_same : ℕ → Bool
+byte_same i = eqb (i % block_size) order_place || eqb (byte_at P.blocks i) (byte_at P'.blocks i)
 
 -- a source of block b runs before it in both or in neither
 before : ℕ → Source → Bool
@@ -45,8 +45,8 @@ before b (Output a q) =
     || ltb (order_of P.blocks a) (order_of P.blocks b)
     && ltb (order_of P'.blocks a) (order_of P'.blocks b)
 
-beforeAll : ℕ → Bool
-beforeAll b = all (λ p. before b (link_of P.blocks b p)) linkCount
+before_all : ℕ → Bool
+before_all b = all (λ p. before b (link_of P.blocks b p)) link_count
 
 record Computed : Type 0 where
   pub groups : P.groups ≡ P'.groups
@@ -54,14 +54,14 @@ record Computed : Type 0 where
   pub outputs : P.outputs ≡ P'.outputs
   pub long : length P.blocks ≡ 120
   pub long' : length P'.blocks ≡ 120
-  pub count : blockCount P.blocks ≡ 3
-  pub bytes : all byteSame 120 ≡ true
-  pub along : all beforeAll 3 ≡ true
+  pub count : block_count P.blocks ≡ 3
+  pub bytes : all byte_same 120 ≡ true
+  pub along : all before_all 3 ≡ true
   pub differ : (order_of P.blocks 0 ≡ 0) × (order_of P'.blocks 0 ≡ 1)
 
 computed : Computed
-unfolding asNumbered otherwise projectOf bodyIn contentsOk followsOk bodyStart bodySize body_of row_of blockCount link_in
-    byteSame before beforeAll all firstBad
+unfolding as_numbered otherwise project_of body_in contents_ok follows_ok body_start body_size body_of row_of block_count link_in
+    byte_same before before_all all first_bad
 computed = record {
   groups = refl;
   inputs = refl;
@@ -76,31 +76,31 @@ computed = record {
 
 -- ---- so they are alike
 
-same_byte : (i : ℕ) → ((b : ℕ) → b < blockCount P.blocks → IsOrderByte b i → ⊥) →
-    byteAt P.blocks i ≡ byteAt P'.blocks i
-unfolding byteSame
+same_byte : (i : ℕ) → ((b : ℕ) → b < block_count P.blocks → IsOrderByte b i → ⊥) →
+    byte_at P.blocks i ≡ byte_at P'.blocks i
+unfolding byte_same
 same_byte i h = go (dec_lt i 120)
   where
-    past : (B : List ℕ) → length B ≡ 120 → 120 ≤ i → byteAt B i ≡ 0
+    past : (B : List ℕ) → length B ≡ 120 → 120 ≤ i → byte_at B i ≡ 0
     past B e l = get_or-eq_default B 0 (omega arith)
 
-    go : Dec (i < 120) → byteAt P.blocks i ≡ byteAt P'.blocks i
+    go : Dec (i < 120) → byte_at P.blocks i ≡ byte_at P'.blocks i
     go (no n) =
         past P.blocks computed.long (omega (arith, n))
         ∙ sym (past P'.blocks computed.long' (omega (arith, n)))
-    go (yes l) = by (eqb (i % blockSize) orderPlace) refl (all-each byteSame 120 computed.bytes i l)
+    go (yes l) = by (eqb (i % block_size) order_place) refl (all_each byte_same 120 computed.bytes i l)
       where
-        by : (t : Bool) → eqb (i % blockSize) orderPlace ≡ t →
-            t || eqb (byteAt P.blocks i) (byteAt P'.blocks i) ≡ true →
-            byteAt P.blocks i ≡ byteAt P'.blocks i
+        by : (t : Bool) → eqb (i % block_size) order_place ≡ t →
+            t || eqb (byte_at P.blocks i) (byte_at P'.blocks i) ≡ true →
+            byte_at P.blocks i ≡ byte_at P'.blocks i
         by true e f =
-            let is_order = eqb-true (i % blockSize) orderPlace e in
-            absurd (h (i / blockSize) (omega (arith, computed.count)) (omega (arith, is_order)))
+            let is_order = eqb-true (i % block_size) order_place e in
+            absurd (h (i / block_size) (omega (arith, computed.count)) (omega (arith, is_order)))
         by false e f = eqb-true _ _ f
 
-same-order : (x y : ℕ) (u v : ℕ) → not (ltb x y) && not (ltb u v) || ltb x y && ltb u v ≡ true →
+same_order : (x y : ℕ) (u v : ℕ) → not (ltb x y) && not (ltb u v) || ltb x y && ltb u v ≡ true →
     (x < y) ↔ (u < v)
-same-order x y u v = go (ltb x y) refl (ltb u v) refl
+same_order x y u v = go (ltb x y) refl (ltb u v) refl
   where
     go : (s : Bool) → ltb x y ≡ s → (t : Bool) → ltb u v ≡ t → not s && not t || s && t ≡ true →
         (x < y) ↔ (u < v)
@@ -112,39 +112,39 @@ same-order x y u v = go (ltb x y) refl (ltb u v) refl
       λ l. absurd (true≢false (sym (lt-ltb u v l) ∙ f)),
     )
 
-same-along : (b p a q : ℕ) → b < blockCount P.blocks → link_of P.blocks b p ≡ Output a q →
+same_along : (b p a q : ℕ) → b < block_count P.blocks → link_of P.blocks b p ≡ Output a q →
     (order_of P.blocks a < order_of P.blocks b) ↔ (order_of P'.blocks a < order_of P'.blocks b)
-unfolding before beforeAll
-same-along b p a q l e = go (dec_lt p linkCount)
+unfolding before before_all
+same_along b p a q l e = go (dec_lt p link_count)
   where
-    go : Dec (p < linkCount) →
+    go : Dec (p < link_count) →
         (order_of P.blocks a < order_of P.blocks b) ↔ (order_of P'.blocks a < order_of P'.blocks b)
     go (yes m) =
-        same-order (order_of P.blocks a) (order_of P.blocks b) (order_of P'.blocks a) (order_of P'.blocks b)
+        same_order (order_of P.blocks a) (order_of P.blocks b) (order_of P'.blocks a) (order_of P'.blocks b)
         (sym (ap (before b) e)
-        ∙ all-each (λ p. before b (link_of P.blocks b p)) linkCount
-        (all-each beforeAll 3 computed.along b (omega (arith, computed.count))) p m)
+        ∙ all_each (λ p. before b (link_of P.blocks b p)) link_count
+        (all_each before_all 3 computed.along b (omega (arith, computed.count))) p m)
     go (no n) =
-        let none : Nothing ≡ Output a q = sym (past-links P.blocks b p (omega (arith, n))) ∙ e in
+        let none : Nothing ≡ Output a q = sym (past_links P.blocks b p (omega (arith, n))) ∙ e in
         let never : ◌≡◌ {A = ℕ} 0 1 = cc in
         absurd (omega arith)
 
 -- 01, "What the reviewer must be able to rely on", demand 3: the two files are alike, though block 0 has the execution
 -- number 0 in one and 1 in the other
-pub pair-alike : Alike (projectOf asNumbered) (projectOf otherwise)
-pair-alike = record {
+pub pair_alike : Alike (project_of as_numbered) (project_of otherwise)
+pair_alike = record {
   groups = computed.groups;
   inputs = computed.inputs;
   outputs = computed.outputs;
   long = computed.long ∙ sym computed.long';
   bytes = same_byte;
-  along = same-along;
+  along = same_along;
 }
 
-pub pair-differs : (order_of (projectOf asNumbered).blocks 0 ≡ 0) × (order_of (projectOf otherwise).blocks 0 ≡ 1)
-pair-differs = computed.differ
+pub pair_differs : (order_of (project_of as_numbered).blocks 0 ≡ 0) × (order_of (project_of otherwise).blocks 0 ≡ 1)
+pair_differs = computed.differ
 
 -- so demand 3 says of them that they have the same runs
-pub pair_runs : (Rs : List (List ℕ)) (L : Lent) → run asNumbered Rs L ≡ run otherwise Rs L
+pub pair_runs : (Rs : List (List ℕ)) (L : Lent) → run as_numbered Rs L ≡ run otherwise Rs L
 unfolding Demand3
-pair_runs = demand3 asNumbered otherwise accepted-all.1.0 accepted-all.1.1 pair-alike
+pair_runs = demand3 as_numbered otherwise accepted_all.1.0 accepted_all.1.1 pair_alike

@@ -1,32 +1,32 @@
 -- One answer, and no second, of each public function that answers with more than a number or writes into what it is
 -- lent. `Post` is the function's contract, as its own crate has it: it says the words, and two that meet the same words
--- are equal, by `second-answer`. The arguments stand in the function's order, in what is seen as they are at exit, and
+-- are equal, by `second_answer`. The arguments stand in the function's order, in what is seen as they are at exit, and
 -- `r` is the result. Assumes nothing.
 use Rattle.wire.proofs.Usual.{◌≡◌, ℕ, List, Bool, now, sets, length, replicate, take, drop}
-use Rattle.numbers.proofs.Unique.{second-answer}
+use Rattle.numbers.proofs.Unique.{second_answer}
 use Rattle.wire.specs.Words.{bytes4}
 use Rattle.numbers.specs.Types.{value, type_of, signed, z_of}
-use Rattle.numbers.specs.Results.{settled, outcome, roundingOf}
+use Rattle.numbers.specs.Results.{settled, outcome, rounding_of}
 use Rattle.numbers.specs.declared.Op.TheVariants.{Add, Sub, Mul, Div}
-use Rattle.kind.specs.Kinds.{familyOf}
-use Rattle.kind.specs.Devices.{deviceOf}
-use Rattle.kind.specs.Parameters.{limitsOf}
-use Rattle.project.specs.Project.{link_in, countsOf, countsIn, row_of, inputSize, blockSize, outputSize, parametersIn}
-use Rattle.casefile.specs.Bodies.{projectOf, startsOf, stretchOf}
+use Rattle.kind.specs.Kinds.{family_of}
+use Rattle.kind.specs.Devices.{device_of}
+use Rattle.kind.specs.Parameters.{limits_of}
+use Rattle.project.specs.Project.{link_in, counts_of, counts_in, row_of, input_size, block_size, output_size, parameters_in}
+use Rattle.casefile.specs.Bodies.{project_of, starts_of, stretch_of}
 use Rattle.casefile.specs.Refusal.{verdict}
-use Rattle.block.specs.State.{freshBytes}
-use Rattle.block.specs.Step.{restBytes, decoupleBytes, twohandBytes, arithmeticBytes}
-use Rattle.block.specs.Finding.{findingOf, findingIn}
+use Rattle.block.specs.State.{fresh_bytes}
+use Rattle.block.specs.Step.{rest_bytes, decouple_bytes, twohand_bytes, arithmetic_bytes}
+use Rattle.block.specs.Finding.{finding_of, finding_in}
 use Rattle.evaluator.specs.declared.Answer.{Answer}
 use Rattle.evaluator.specs.Answer.{Lent, lends}
-use Rattle.evaluator.specs.Fresh.{sizesOf}
-use Rattle.evaluator.specs.Asks.{orderList, errorList}
-use Rattle.report.specs.Lines.{findingLine, endLine, refusedLine}
-use Rattle.report.specs.LedgerLines.{rateLine, noRateLine, bendLine}
+use Rattle.evaluator.specs.Fresh.{sizes_of}
+use Rattle.evaluator.specs.Asks.{order_list, error_list}
+use Rattle.report.specs.Lines.{finding_line, end_line, refused_line}
+use Rattle.report.specs.LedgerLines.{rate_line, no_rate_line, bend_line}
 use Rattle.year.specs.Months.{share_of}
-use Rattle.year.specs.Year.{yearOf}
+use Rattle.year.specs.Year.{year_of}
 use Rattle.tracer.specs.Traced.{end_of}
-use Rattle.hagglethwait.specs.Calls.{answerNumber}
+use Rattle.hagglethwait.specs.Calls.{answer_number}
 use Rattle.demands.specs.Words.{Gives, TurnWords, LineWords, CycleWords, FreshWords, StepWords, SizesWords}
 use Rattle.demands.specs.Words.{Columns, columns, LedgerWords}
 use Rattle.demands.specs.Words.{OneAnswer, of1, of2, of3, of4, of5, of6, of9}
@@ -37,57 +37,57 @@ pair_same : {N : Type 0} {x y : record { answer : N; bytes : List ℕ }} →
     x.answer ≡ y.answer → x.bytes ≡ y.bytes → x ≡ y
 pair_same p q = λ i. record { answer = p i; bytes = q i }
 
-turn-same : {made old : List ℕ} {x y : record { answer : Bool; bytes : List ℕ }} →
+turn_same : {made old : List ℕ} {x y : record { answer : Bool; bytes : List ℕ }} →
     TurnWords made old x → TurnWords made old y → x ≡ y
-turn-same p q = pair_same (second-answer p.enters q.enters) (second-answer p.left q.left)
+turn_same p q = pair_same (second_answer p.enters q.enters) (second_answer p.left q.left)
 
 line_same : {line old : List ℕ} {x y : record { answer : ℕ; bytes : List ℕ }} →
     LineWords line old x → LineWords line old y → x ≡ y
-line_same p q = pair_same (second-answer p.whole q.whole) (second-answer p.bytes q.bytes)
+line_same p q = pair_same (second_answer p.whole q.whole) (second_answer p.bytes q.bytes)
 
-fresh-same : {F old : List ℕ} {x y : record { answer : ℕ; bytes : List ℕ }} →
+fresh_same : {F old : List ℕ} {x y : record { answer : ℕ; bytes : List ℕ }} →
     FreshWords F old x → FreshWords F old y → x ≡ y
-fresh-same p q = pair_same (second-answer p.answered q.answered) (second-answer p.left q.left)
+fresh_same p q = pair_same (second_answer p.answered q.answered) (second_answer p.left q.left)
 
 step_same : {G I B R S D : List ℕ} {x y : record { answer : Answer; state : List ℕ; findings : List ℕ }} →
     StepWords G I B R S D x → StepWords G I B R S D y → x ≡ y
 step_same p q = λ i. record {
-  answer = second-answer p.answered q.answered i;
-  state = second-answer p.left q.left i;
-  findings = second-answer p.told q.told i;
+  answer = second_answer p.answered q.answered i;
+  state = second_answer p.left q.left i;
+  findings = second_answer p.told q.told i;
 }
 
-cycle-same : {N : Type 0} {tells : Answer → N} {F R : List ℕ} {L : Lent}
+cycle_same : {N : Type 0} {tells : Answer → N} {F R : List ℕ} {L : Lent}
     {x y : record { answer : N; lent : Lent }} →
     CycleWords tells F R L x → CycleWords tells F R L y → x ≡ y
-cycle-same p q = λ i. record {
-  answer = second-answer p.answered q.answered i;
+cycle_same p q = λ i. record {
+  answer = second_answer p.answered q.answered i;
   lent = record {
-    state = second-answer p.left q.left i;
-    outputs = second-answer p.shown q.shown i;
-    findings = second-answer p.told q.told i;
+    state = second_answer p.left q.left i;
+    outputs = second_answer p.shown q.shown i;
+    findings = second_answer p.told q.told i;
   };
 }
 
-sizes-same : {F : List ℕ} {s o d : ℕ}
+sizes_same : {F : List ℕ} {s o d : ℕ}
     {x y : record { answer : ℕ; state : ℕ; outputs : ℕ; findings : ℕ }} →
     SizesWords F s o d x → SizesWords F s o d y → x ≡ y
-sizes-same p q = λ i. record {
-  answer = second-answer p.answered q.answered i;
-  state = second-answer p.stated q.stated i;
-  outputs = second-answer p.shown q.shown i;
-  findings = second-answer p.told q.told i;
+sizes_same p q = λ i. record {
+  answer = second_answer p.answered q.answered i;
+  state = second_answer p.stated q.stated i;
+  outputs = second_answer p.shown q.shown i;
+  findings = second_answer p.told q.told i;
 }
 
-ledger-same : {F : List ℕ} {L : Columns} {x y : record { answer : ℕ; lent : Columns }} →
+ledger_same : {F : List ℕ} {L : Columns} {x y : record { answer : ℕ; lent : Columns }} →
     LedgerWords F L x → LedgerWords F L y → x ≡ y
-ledger-same p q = λ i. record {
-  answer = second-answer p.answered q.answered i;
+ledger_same p q = λ i. record {
+  answer = second_answer p.answered q.answered i;
   lent = record {
-    findings = second-answer p.found q.found i;
-    dismissed = second-answer p.gone q.gone i;
-    rates = second-answer p.rated q.rated i;
-    bends = second-answer p.bent q.bent i;
+    findings = second_answer p.found q.found i;
+    dismissed = second_answer p.gone q.gone i;
+    rates = second_answer p.rated q.rated i;
+    bends = second_answer p.bent q.bent i;
   };
 }
 
@@ -110,11 +110,11 @@ gives :
     {K : Type 0} {A R S : K → Type 0} {X : Type 0}
     {defined : (κs : K) → A κs → X} {seen : (κs : K) → S κs → R κs → X} →
     OneAnswer {A = A} {R = R} (λ κs a r s. seen κs s r ≡ defined κs a) (λ κs a. Gives (defined κs a)) seen
-gives = one (λ κs a x y. second-answer) (λ κs a r s p. p)
+gives = one (λ κs a x y. second_answer) (λ κs a r s p. p)
 
 -- ---- the functions, crate by crate
 
-pub wire-one :
+pub wire_one :
     OneAnswer Rattle.wire.proofs.put.Reads.Post
     (of3 (λ dst at src. Gives (sets (now dst) at (now src)))) (of3 (λ dst at src r. now dst))
     × OneAnswer Rattle.wire.proofs.write32.Reads.Post
@@ -124,9 +124,9 @@ pub wire-one :
     × OneAnswer Rattle.wire.proofs.bytes32.Reads.Post (of1 (λ w. Gives (bytes4 w))) (λ κs s r. r)
     × OneAnswer Rattle.wire.proofs.part.Reads.Post
     (of3 (λ s at size. Gives (take size (drop at (now s))))) (λ κs s r. now r)
-wire-one = (gives, gives, gives, gives, gives)
+wire_one = (gives, gives, gives, gives, gives)
 
-pub numbers-one :
+pub numbers_one :
     OneAnswer Rattle.numbers.proofs.load.Reads.Post (of2 (λ t w. Gives (signed (value t w)))) (λ κs s r. r)
     × OneAnswer Rattle.numbers.proofs.settle.Reads.Post (of2 (λ t v. Gives (settled t (z_of v)))) (λ κs s r. r)
     × OneAnswer Rattle.numbers.proofs.sum.Reads.Post
@@ -140,123 +140,123 @@ pub numbers-one :
     × OneAnswer Rattle.numbers.proofs.compute.Reads.Post
     (of6 (λ op ta a tb b t. Gives (outcome op ta a tb b t))) (λ κs s r. r)
     × OneAnswer Rattle.numbers.proofs.type_of.Reads.Post (of1 (λ b. Gives (type_of b))) (λ κs s r. r)
-    × OneAnswer Rattle.numbers.proofs.rounding_of.Reads.Post (of1 (λ b. Gives (roundingOf b))) (λ κs s r. r)
-numbers-one = (gives, gives, gives, gives, gives, gives, gives, gives, gives)
+    × OneAnswer Rattle.numbers.proofs.rounding_of.Reads.Post (of1 (λ b. Gives (rounding_of b))) (λ κs s r. r)
+numbers_one = (gives, gives, gives, gives, gives, gives, gives, gives, gives)
 
-pub kind-one :
-    OneAnswer Rattle.kind.proofs.device_of.Reads.Post (of1 (λ device. Gives (deviceOf device))) (λ κs s r. r)
-    × OneAnswer Rattle.kind.proofs.family_of.Reads.Post (of1 (λ kind. Gives (familyOf kind))) (λ κs s r. r)
-    × OneAnswer Rattle.kind.proofs.limits_of.Reads.Post (of1 (λ p. Gives (limitsOf (now p)))) (λ κs s r. r)
-kind-one = (gives, gives, gives)
+pub kind_one :
+    OneAnswer Rattle.kind.proofs.device_of.Reads.Post (of1 (λ device. Gives (device_of device))) (λ κs s r. r)
+    × OneAnswer Rattle.kind.proofs.family_of.Reads.Post (of1 (λ kind. Gives (family_of kind))) (λ κs s r. r)
+    × OneAnswer Rattle.kind.proofs.limits_of.Reads.Post (of1 (λ p. Gives (limits_of (now p)))) (λ κs s r. r)
+kind_one = (gives, gives, gives)
 
-pub project-one :
+pub project_one :
     OneAnswer Rattle.project.proofs.counts_of.Reads.Post
-    (of4 (λ groups inputs blocks outputs. Gives (countsOf (now groups) (now inputs) (now blocks) (now outputs))))
+    (of4 (λ groups inputs blocks outputs. Gives (counts_of (now groups) (now inputs) (now blocks) (now outputs))))
     (λ κs s r. r)
     × OneAnswer Rattle.project.proofs.source_of.Reads.Post
     (of2 (λ rec port. Gives (link_in (now rec) port))) (λ κs s r. r)
     × OneAnswer Rattle.project.proofs.record_at.Reads.Post
     (of3 (λ records size k. Gives (row_of size k (now records)))) (λ κs s r. now r)
     × OneAnswer Rattle.project.proofs.input_record.Reads.Post
-    (of2 (λ inputs i. Gives (row_of inputSize i (now inputs)))) (λ κs s r. now r)
+    (of2 (λ inputs i. Gives (row_of input_size i (now inputs)))) (λ κs s r. now r)
     × OneAnswer Rattle.project.proofs.block_record.Reads.Post
-    (of2 (λ blocks b. Gives (row_of blockSize b (now blocks)))) (λ κs s r. now r)
+    (of2 (λ blocks b. Gives (row_of block_size b (now blocks)))) (λ κs s r. now r)
     × OneAnswer Rattle.project.proofs.output_record.Reads.Post
-    (of2 (λ outputs o. Gives (row_of outputSize o (now outputs)))) (λ κs s r. now r)
+    (of2 (λ outputs o. Gives (row_of output_size o (now outputs)))) (λ κs s r. now r)
     × OneAnswer Rattle.project.proofs.parameters_of.Reads.Post
-    (of1 (λ rec. Gives (parametersIn (now rec)))) (λ κs s r. now r)
-project-one = (gives, gives, gives, gives, gives, gives, gives)
+    (of1 (λ rec. Gives (parameters_in (now rec)))) (λ κs s r. now r)
+project_one = (gives, gives, gives, gives, gives, gives, gives)
 
-pub casefile-one :
+pub casefile_one :
     OneAnswer Rattle.casefile.proofs.check.Reads.Post (of1 (λ file. Gives (verdict (now file)))) (λ κs s r. r)
     × OneAnswer Rattle.casefile.proofs.counts_in.Reads.Post
-    (of1 (λ file. Gives (countsIn (projectOf (now file))))) (λ κs s r. r)
+    (of1 (λ file. Gives (counts_in (project_of (now file))))) (λ κs s r. r)
     × OneAnswer Rattle.casefile.proofs.starts_of.Reads.Post
-    (of1 (λ file. Gives (startsOf (now file)))) (λ κs s r. r)
+    (of1 (λ file. Gives (starts_of (now file)))) (λ κs s r. r)
     × OneAnswer Rattle.casefile.proofs.body.Reads.Post
-    (of3 (λ file starts e. Gives (stretchOf (now file) starts e))) (λ κs s r. now r)
-casefile-one = (gives, gives, one (λ κs a x y. second-answer) (λ κs a r s p. p.0), gives)
+    (of3 (λ file starts e. Gives (stretch_of (now file) starts e))) (λ κs s r. now r)
+casefile_one = (gives, gives, one (λ κs a x y. second_answer) (λ κs a r s p. p.0), gives)
 
 pub block_one :
     OneAnswer Rattle.block.proofs.rest.Reads.Post
-    (of3 (λ phase ack s. Gives (sets (now s) 0 (restBytes phase ack (now s))))) (of3 (λ phase ack s r. now s))
+    (of3 (λ phase ack s. Gives (sets (now s) 0 (rest_bytes phase ack (now s))))) (of3 (λ phase ack s r. now s))
     × OneAnswer Rattle.block.proofs.stop.Reads.Post
-    (of1 (λ s. Gives (sets (now s) 0 freshBytes))) (of1 (λ s r. now s))
+    (of1 (λ s. Gives (sets (now s) 0 fresh_bytes))) (of1 (λ s r. now s))
     × OneAnswer Rattle.block.proofs.decouple_step.Reads.Post
-    (of3 (λ phase x s. TurnWords (decoupleBytes phase x) (now s)))
+    (of3 (λ phase x s. TurnWords (decouple_bytes phase x) (now s)))
     (of3 (λ phase x s r. record { answer = r; bytes = now s }))
     × OneAnswer Rattle.block.proofs.twohand_step.Reads.Post
-    (of5 (λ p phase ms x s. TurnWords (twohandBytes (now p) phase ms x (now s)) (now s)))
+    (of5 (λ p phase ms x s. TurnWords (twohand_bytes (now p) phase ms x (now s)) (now s)))
     (of5 (λ p phase ms x s r. record { answer = r; bytes = now s }))
     × OneAnswer Rattle.block.proofs.arithmetic_step.Reads.Post
-    (of6 (λ kind p phase x y s. TurnWords (arithmeticBytes kind (now p) phase x y (now s)) (now s)))
+    (of6 (λ kind p phase x y s. TurnWords (arithmetic_bytes kind (now p) phase x y (now s)) (now s)))
     (of6 (λ kind p phase x y s r. record { answer = r; bytes = now s }))
-    × OneAnswer Rattle.block.proofs.fresh.Reads.Post (λ κs a. Gives freshBytes) (λ κs s r. r)
+    × OneAnswer Rattle.block.proofs.fresh.Reads.Post (λ κs a. Gives fresh_bytes) (λ κs s r. r)
     × OneAnswer Rattle.block.proofs.finding.Reads.Post
-    (of6 (λ number group kind x y s. Gives (findingOf number group kind x y (now s)))) (λ κs s r. r)
-    × OneAnswer Rattle.block.proofs.read_finding.Reads.Post (of1 (λ f. Gives (findingIn (now f)))) (λ κs s r. r)
+    (of6 (λ number group kind x y s. Gives (finding_of number group kind x y (now s)))) (λ κs s r. r)
+    × OneAnswer Rattle.block.proofs.read_finding.Reads.Post (of1 (λ f. Gives (finding_in (now f)))) (λ κs s r. r)
 block_one = (
   gives,
   gives,
-  one (λ κs a x y. turn-same) (λ κs a r s p. record { left = p.0; enters = p.1 }),
-  one (λ κs a x y. turn-same) (λ κs a r s p. record { left = p.0; enters = p.1 }),
-  one (λ κs a x y. turn-same) (λ κs a r s p. record { left = p.0; enters = p.1 }),
+  one (λ κs a x y. turn_same) (λ κs a r s p. record { left = p.0; enters = p.1 }),
+  one (λ κs a x y. turn_same) (λ κs a r s p. record { left = p.0; enters = p.1 }),
+  one (λ κs a x y. turn_same) (λ κs a r s p. record { left = p.0; enters = p.1 }),
   gives,
   gives,
   gives,
 )
 
-pub evaluator-one :
+pub evaluator_one :
     OneAnswer Rattle.evaluator.proofs.cycle.Reads.Post
     (of5 (λ file rec state outputs findings.
     CycleWords (λ n. n) (now file) (now rec) (lends (now state) (now outputs) (now findings))))
     (of5 (λ file rec state outputs findings r.
     record { answer = r; lent = lends (now state) (now outputs) (now findings) }))
     × OneAnswer Rattle.evaluator.proofs.sizes_of.Reads.Post
-    (of1 (λ file. Gives (sizesOf (now file)))) (λ κs s r. r)
+    (of1 (λ file. Gives (sizes_of (now file)))) (λ κs s r. r)
     × OneAnswer Rattle.evaluator.proofs.fresh.Reads.Post (of2 (λ file state. FreshWords (now file) (now state)))
     (of2 (λ file state r. record { answer = r; bytes = now state }))
     × OneAnswer Rattle.evaluator.proofs.unchecked.block_order.Reads.Post
-    (of2 (λ c blocks. Gives (orderList (now blocks)))) (λ κs s r. r)
+    (of2 (λ c blocks. Gives (order_list (now blocks)))) (λ κs s r. r)
     × OneAnswer Rattle.evaluator.proofs.unchecked.groups_in_error.Reads.Post
-    (of3 (λ c blocks state. Gives (errorList c.groups (now blocks) (now state)))) (λ κs s r. r)
+    (of3 (λ c blocks state. Gives (error_list c.groups (now blocks) (now state)))) (λ κs s r. r)
     × OneAnswer Rattle.evaluator.proofs.unchecked.step.Reads.Post
     (of9 (λ c groups inputs blocks order errors rec state findings.
     StepWords (now groups) (now inputs) (now blocks) (now rec) (now state) (now findings)))
     (of9 (λ c groups inputs blocks order errors rec state findings r.
     record { answer = r; state = now state; findings = now findings }))
-evaluator-one = (
-  one (λ κs a x y. cycle-same)
+evaluator_one = (
+  one (λ κs a x y. cycle_same)
       (λ κs a r s p. record { answered = p.0; left = p.1.0; shown = p.1.1.0; told = p.1.1.1 }),
   gives,
-  one (λ κs a x y. fresh-same) (λ κs a r s p. record { answered = p.0; left = p.1 }),
+  one (λ κs a x y. fresh_same) (λ κs a r s p. record { answered = p.0; left = p.1 }),
   gives,
   gives,
   one (λ κs a x y. step_same)
       (λ κs a r s p. record { answered = p.0; left = p.1.0; told = p.1.1 }),
 )
 
-pub report-one :
+pub report_one :
     OneAnswer Rattle.report.proofs.finding_line.Reads.Post
     (of9 (λ out cycle block text diagnosis ta x tb y.
-    LineWords (findingLine cycle block text diagnosis ta x tb y) (now out)))
+    LineWords (finding_line cycle block text diagnosis ta x tb y) (now out)))
     (of9 (λ out cycle block text diagnosis ta x tb y r. record { answer = r; bytes = now out }))
     × OneAnswer Rattle.report.proofs.end_line.Reads.Post
-    (of3 (λ out cycles findings. LineWords (endLine cycles findings) (now out)))
+    (of3 (λ out cycles findings. LineWords (end_line cycles findings) (now out)))
     (of3 (λ out cycles findings r. record { answer = r; bytes = now out }))
     × OneAnswer Rattle.report.proofs.refused_line.Reads.Post
-    (of2 (λ out number. LineWords (refusedLine number) (now out)))
+    (of2 (λ out number. LineWords (refused_line number) (now out)))
     (of2 (λ out number r. record { answer = r; bytes = now out }))
     × OneAnswer Rattle.report.proofs.rate_line.Reads.Post
-    (of5 (λ out month findings dismissed bits. LineWords (rateLine month findings dismissed bits) (now out)))
+    (of5 (λ out month findings dismissed bits. LineWords (rate_line month findings dismissed bits) (now out)))
     (of5 (λ out month findings dismissed bits r. record { answer = r; bytes = now out }))
     × OneAnswer Rattle.report.proofs.no_rate_line.Reads.Post
-    (of4 (λ out month findings dismissed. LineWords (noRateLine month findings dismissed) (now out)))
+    (of4 (λ out month findings dismissed. LineWords (no_rate_line month findings dismissed) (now out)))
     (of4 (λ out month findings dismissed r. record { answer = r; bytes = now out }))
     × OneAnswer Rattle.report.proofs.bend_line.Reads.Post
-    (of2 (λ out month. LineWords (bendLine month) (now out)))
+    (of2 (λ out month. LineWords (bend_line month) (now out)))
     (of2 (λ out month r. record { answer = r; bytes = now out }))
-report-one = (
+report_one = (
   one (λ κs a x y. line_same) (λ κs a r s p. p),
   one (λ κs a x y. line_same) (λ κs a r s p. p),
   one (λ κs a x y. line_same) (λ κs a r s p. p),
@@ -265,16 +265,16 @@ report-one = (
   one (λ κs a x y. line_same) (λ κs a r s p. p),
 )
 
-pub year-one :
+pub year_one :
     OneAnswer Rattle.year.proofs.share_of.Reads.Post (of1 (λ l. Gives (share_of l))) (λ κs s r. r)
-    × OneAnswer Rattle.year.proofs.year_of.Reads.Post (of1 (λ file. Gives (yearOf (now file)))) (λ κs s r. r)
-year-one = (gives, gives)
+    × OneAnswer Rattle.year.proofs.year_of.Reads.Post (of1 (λ file. Gives (year_of (now file)))) (λ κs s r. r)
+year_one = (gives, gives)
 
-pub tracer-one :
+pub tracer_one :
     OneAnswer Rattle.tracer.proofs.trace.Reads.Post (of1 (λ file. Gives (end_of (now file)))) (λ κs s r. r)
-tracer-one = gives
+tracer_one = gives
 
-pub hagglethwait-one :
+pub hagglethwait_one :
     OneAnswer Rattle.hagglethwait.proofs.hagglethwait_sizes.Reads.Post
     (of4 (λ file state outputs findings.
     SizesWords (now file) (now state) (now outputs) (now findings)))
@@ -285,7 +285,7 @@ pub hagglethwait-one :
     (of2 (λ file state r. record { answer = r; bytes = now state }))
     × OneAnswer Rattle.hagglethwait.proofs.hagglethwait_cycle.Reads.Post
     (of5 (λ file rec state outputs findings.
-    CycleWords answerNumber (now file) (now rec) (lends (now state) (now outputs) (now findings))))
+    CycleWords answer_number (now file) (now rec) (lends (now state) (now outputs) (now findings))))
     (of5 (λ file rec state outputs findings r.
     record { answer = r; lent = lends (now state) (now outputs) (now findings) }))
     × OneAnswer Rattle.hagglethwait.proofs.hagglethwait_ledger.Reads.Post
@@ -293,13 +293,13 @@ pub hagglethwait-one :
     LedgerWords (now file) (columns (now findings) (now dismissed) (now rates) (now bends))))
     (of5 (λ file findings dismissed rates bends r.
     record { answer = r; lent = columns (now findings) (now dismissed) (now rates) (now bends) }))
-hagglethwait-one = (
-  one (λ κs a x y. sizes-same)
+hagglethwait_one = (
+  one (λ κs a x y. sizes_same)
       (λ κs a r s p. record { answered = p.0; stated = p.1.0; shown = p.1.1.0; told = p.1.1.1 }),
-  one (λ κs a x y. fresh-same) (λ κs a r s p. record { answered = p.0; left = p.1 }),
-  one (λ κs a x y. cycle-same)
+  one (λ κs a x y. fresh_same) (λ κs a r s p. record { answered = p.0; left = p.1 }),
+  one (λ κs a x y. cycle_same)
       (λ κs a r s p. record { answered = p.0; left = p.1.0; shown = p.1.1.0; told = p.1.1.1 }),
-  one (λ κs a x y. ledger-same)
+  one (λ κs a x y. ledger_same)
       (λ κs a r s p. record
       { answered = p.0; found = p.1.0; gone = p.1.1.0; rated = p.1.1.1.0; bent = p.1.1.1.1 }),
 )

@@ -5,32 +5,32 @@ use Rattle.wire.proofs.Usual.{◌≡◌, refl, sym, ap, ap₂, ◌∙◌, ◌≢
 use Rattle.wire.proofs.Usual.{◌*◌, ◌/◌, arith, length, replicate}
 use Rattle.wire.specs.Records.{gather}
 use Rattle.wire.specs.Tables.{first}
-use Rattle.project.specs.Project.{Project, row_of, groupCount, recordSize}
+use Rattle.project.specs.Project.{Project, row_of, group_count, record_size}
 use Rattle.project.specs.Alike.{Alike}
 use Rattle.project.proofs.Alike.{blocks-same, kind-same, parameters-same}
 use Rattle.casefile.specs.declared.Verdict.TheVariants.{Accepted}
-use Rattle.casefile.specs.Bodies.{body_g, bodyI, bodyT, bodyIn, projectOf, recordCount, recordOf}
-use Rattle.casefile.specs.Refusal.{fileTable, told, verdict, number_of}
+use Rattle.casefile.specs.Bodies.{body_g, body_i, body_t, body_in, project_of, record_count, record_of}
+use Rattle.casefile.specs.Refusal.{file_table, told, verdict, number_of}
 use Rattle.casefile.proofs.Refusals.{accepted-zero}
-use Rattle.kind.specs.Kinds.{familyOf}
-use Rattle.block.specs.State.{freshBytes}
+use Rattle.kind.specs.Kinds.{family_of}
+use Rattle.block.specs.State.{fresh_bytes}
 use Rattle.block.specs.declared.FindingRecord.{FindingRecord}
-use Rattle.block.specs.Finding.{findingSize, findingIn}
+use Rattle.block.specs.Finding.{finding_size, finding_in}
 use Rattle.evaluator.specs.declared.Answer.{Answer}
 use Rattle.evaluator.specs.declared.Answer.TheVariants.{Findings, Refused}
-use Rattle.evaluator.specs.State.{stateHead, outputsLength, findingsLength}
-use Rattle.evaluator.specs.Answer.{Lent, Left, lends, refusal, leaves, cycleOf, number_in}
-use Rattle.evaluator.specs.Cycle.{findingCount}
+use Rattle.evaluator.specs.State.{state_head, outputs_length, findings_length}
+use Rattle.evaluator.specs.Answer.{Lent, Left, lends, refusal, leaves, cycle_of, number_in}
+use Rattle.evaluator.specs.Cycle.{finding_count}
 use Rattle.evaluator.specs.Runs.{run}
-use Rattle.evaluator.specs.Fresh.{freshFor}
+use Rattle.evaluator.specs.Fresh.{fresh_for}
 use Rattle.evaluator.proofs.Calls.{refused-file, call-refused}
-use Rattle.report.specs.Lines.{findingLine, refusedLine}
+use Rattle.report.specs.Lines.{finding_line, refused_line}
 use Rattle.tracer.specs.declared.End.{End}
 use Rattle.tracer.specs.declared.End.TheVariants.{Refused as Halted}
-use Rattle.tracer.specs.Traced.{recordsFrom, freshLent, calls, goesOn, ended, runEnd, unlessRefused, endNumber, end_of}
-use Rattle.tracer.specs.Text.{shownAs, line_of, lines_of, lastLine, textsFrom, texts, joined, traceText}
-use Rattle.demands.specs.Demands.{Demand3, Printout, traceOver, firstNumber, numbersOf, Traces}
-use Rattle.demands.proofs.Demand1.{told-number}
+use Rattle.tracer.specs.Traced.{records_from, fresh_lent, calls, goes_on, ended, run_end, unless_refused, end_number, end_of}
+use Rattle.tracer.specs.Text.{shown_as, line_of, lines_of, last_line, texts_from, texts, joined, trace_text}
+use Rattle.demands.specs.Demands.{Demand3, Printout, trace_over, first_number, numbers_of, Traces}
+use Rattle.demands.proofs.Demand1.{told_number_is}
 use Rattle.demands.proofs.Demand3.{demand3}
 
 -- ---- the fold
@@ -45,102 +45,102 @@ module _ (F : List ℕ) where
 
   end_by : (a : Answer) (lines : ℕ → List ℕ) (e : ℕ → End) (rest : ℕ → Printout) →
       ((k : ℕ) → e k ≡ (rest k).end) →
-      goesOn a Halted e ≡ (goesOn a stops (λ k. goes (lines k) (rest k))).end
+      goes_on a Halted e ≡ (goes_on a stops (λ k. goes (lines k) (rest k))).end
   end_by (Findings k) lines e rest h = h k
   end_by (Refused m) lines e rest h = refl
 
   text-by : (a : Answer) (lines : ℕ → List ℕ) (ts : List (List ℕ)) (rest : ℕ → Printout) →
       ((k : ℕ) → joined ts ≡ (rest k).text) →
-      joined (goesOn a (λ _. []) (λ k. lines k ∷ ts)) ≡ (goesOn a stops (λ k. goes (lines k) (rest k))).text
+      joined (goes_on a (λ _. []) (λ k. lines k ∷ ts)) ≡ (goes_on a stops (λ k. goes (lines k) (rest k))).text
   unfolding joined
   text-by (Findings k) lines ts rest h = ap (λ (t : List ℕ). lines k ++ t) (h k)
   text-by (Refused m) lines ts rest h = refl
 
-  over-end : (Rs : List (List ℕ)) (L : Lent) (c n : ℕ) → ended c n (run F Rs L) ≡ (traceOver F Rs L c n).end
-  unfolding ended run traceOver
+  over-end : (Rs : List (List ℕ)) (L : Lent) (c n : ℕ) → ended c n (run F Rs L) ≡ (trace_over F Rs L c n).end
+  unfolding ended run trace_over
   over-end [] L c n = refl
   over-end (R ∷ Rs) L c n =
-      let l = cycleOf F R L in
-      end_by l.answer (λ k. lines_of (projectOf F).blocks (c + 1) k l.lent.findings)
-      (λ k. ended (c + 1) (n + k) (run F Rs l.lent)) (λ k. traceOver F Rs l.lent (c + 1) (n + k))
+      let l = cycle_of F R L in
+      end_by l.answer (λ k. lines_of (project_of F).blocks (c + 1) k l.lent.findings)
+      (λ k. ended (c + 1) (n + k) (run F Rs l.lent)) (λ k. trace_over F Rs l.lent (c + 1) (n + k))
       (λ k. over-end Rs l.lent (c + 1) (n + k))
 
   over-text : (Rs : List (List ℕ)) (L : Lent) (c n : ℕ) →
-      joined (textsFrom (projectOf F).blocks c (run F Rs L)) ≡ (traceOver F Rs L c n).text
-  unfolding textsFrom joined run traceOver
+      joined (texts_from (project_of F).blocks c (run F Rs L)) ≡ (trace_over F Rs L c n).text
+  unfolding texts_from joined run trace_over
   over-text [] L c n = refl
   over-text (R ∷ Rs) L c n =
-      let l = cycleOf F R L in
-      text-by l.answer (λ k. lines_of (projectOf F).blocks (c + 1) k l.lent.findings)
-      (textsFrom (projectOf F).blocks (c + 1) (run F Rs l.lent))
-      (λ k. traceOver F Rs l.lent (c + 1) (n + k)) (λ k. over-text Rs l.lent (c + 1) (n + k))
+      let l = cycle_of F R L in
+      text-by l.answer (λ k. lines_of (project_of F).blocks (c + 1) k l.lent.findings)
+      (texts_from (project_of F).blocks (c + 1) (run F Rs l.lent))
+      (λ k. trace_over F Rs l.lent (c + 1) (n + k)) (λ k. over-text Rs l.lent (c + 1) (n + k))
 
   abbrev whole : Printout
-  whole = traceOver F (recordsFrom F 0 (recordCount F)) (freshLent F) 0 0
+  whole = trace_over F (records_from F 0 (record_count F)) (fresh_lent F) 0 0
 
-  folded : verdict F ≡ Accepted → (end_of F ≡ whole.end) × (traceText F ≡ whole.text ++ lastLine whole.end)
-  unfolding end_of runEnd calls texts traceText
+  folded : verdict F ≡ Accepted → (end_of F ≡ whole.end) × (trace_text F ≡ whole.text ++ last_line whole.end)
+  unfolding end_of run_end calls texts trace_text
   folded ok =
-      let Rs = recordsFrom F 0 (recordCount F) in
+      let Rs = records_from F 0 (record_count F) in
       let e : end_of F ≡ whole.end =
-      ap (λ (n : ℕ). unlessRefused n (runEnd F)) (accepted-zero F ok) ∙ over-end Rs (freshLent F) 0 0 in
-      (e, ap₂ (λ (t : List ℕ) (x : End). t ++ lastLine x) (over-text Rs (freshLent F) 0 0) e)
+      ap (λ (n : ℕ). unless_refused n (run_end F)) (accepted-zero F ok) ∙ over-end Rs (fresh_lent F) 0 0 in
+      (e, ap₂ (λ (t : List ℕ) (x : End). t ++ last_line x) (over-text Rs (fresh_lent F) 0 0) e)
 
 -- ---- a file that is turned down
 
-module _ (F : List ℕ) (n : ℕ) (e : first (fileTable F) ≡ suc n) where
+module _ (F : List ℕ) (n : ℕ) (e : first (file_table F) ≡ suc n) where
   stopped : end_of F ≡ Halted (suc n)
   unfolding end_of
-  stopped = ap (λ (m : ℕ). unlessRefused m (runEnd F)) e
+  stopped = ap (λ (m : ℕ). unless_refused m (run_end F)) e
 
   -- its first call, where there is one, is turned down, so no cycle prints anything
-  no_text : (m : ℕ) (L : Lent) → textsFrom (projectOf F).blocks 0 (run F (recordsFrom F 0 m) L) ≡ []
-  unfolding textsFrom run recordsFrom
+  no_text : (m : ℕ) (L : Lent) → texts_from (project_of F).blocks 0 (run F (records_from F 0 m) L) ≡ []
+  unfolding texts_from run records_from
   no_text zero L = refl
   no_text (suc m) L =
-      let R = recordOf F 0 in
+      let R = record_of F 0 in
       let some : suc n ≢ 0 = λ z. omega (arith, z) in
-      ap (λ (l : Left). textsFrom (projectOf F).blocks 0 (l ∷ run F (recordsFrom F 1 m) (cycleOf F R L).lent))
+      ap (λ (l : Left). texts_from (project_of F).blocks 0 (l ∷ run F (records_from F 1 m) (cycle_of F R L).lent))
       (call-refused F R L (suc n) (sym (refused-file F R L (suc n) (sym e) some)) some)
 
-  refused : (endNumber (end_of F) ≡ suc n) × (traceText F ≡ refusedLine (suc n))
-  unfolding traceText texts calls joined
+  refused : (end_number (end_of F) ≡ suc n) × (trace_text F ≡ refused_line (suc n))
+  unfolding trace_text texts calls joined
   refused = (
-    ap endNumber stopped,
-    ap₂ (λ (ts : List (List ℕ)) (x : End). joined ts ++ lastLine x)
-        (no_text (recordCount F) (freshLent F)) stopped,
+    ap end_number stopped,
+    ap₂ (λ (ts : List (List ℕ)) (x : End). joined ts ++ last_line x)
+        (no_text (record_count F) (fresh_lent F)) stopped,
   )
 
 -- ---- the number of the end
 
 -- a call that is turned down has a number that is not 0
-end-number : (n : ℕ) (P : Project) (R : List ℕ) (L : Lent) (e : ℕ → End) (ns : List ℕ) →
-    ((k : ℕ) → endNumber (e k) ≡ firstNumber ns) →
-    endNumber (goesOn (leaves n P R L).answer Halted e) ≡ firstNumber (number_in (leaves n P R L).answer ∷ ns)
-unfolding firstNumber
-end-number zero P R L e ns h = h (findingCount P.groups P.blocks R L.state)
-end-number (suc n) P R L e ns h = refl
+end_number_is : (n : ℕ) (P : Project) (R : List ℕ) (L : Lent) (e : ℕ → End) (ns : List ℕ) →
+    ((k : ℕ) → end_number (e k) ≡ first_number ns) →
+    end_number (goes_on (leaves n P R L).answer Halted e) ≡ first_number (number_in (leaves n P R L).answer ∷ ns)
+unfolding first_number
+end_number_is zero P R L e ns h = h (finding_count P.groups P.blocks R L.state)
+end_number_is (suc n) P R L e ns h = refl
 
-run-number : (F : List ℕ) (Rs : List (List ℕ)) (L : Lent) (c n : ℕ) →
-    endNumber (ended c n (run F Rs L)) ≡ firstNumber (numbersOf (run F Rs L))
-unfolding ended run firstNumber cycleOf
-run-number F [] L c n = refl
-run-number F (R ∷ Rs) L c n =
-    let later = run F Rs (cycleOf F R L).lent in
-    end-number (refusal F R L) (projectOf F) R L (λ k. ended (c + 1) (n + k) later) (numbersOf later)
-    (λ k. run-number F Rs (cycleOf F R L).lent (c + 1) (n + k))
+run_number : (F : List ℕ) (Rs : List (List ℕ)) (L : Lent) (c n : ℕ) →
+    end_number (ended c n (run F Rs L)) ≡ first_number (numbers_of (run F Rs L))
+unfolding ended run first_number cycle_of
+run_number F [] L c n = refl
+run_number F (R ∷ Rs) L c n =
+    let later = run F Rs (cycle_of F R L).lent in
+    end_number_is (refusal F R L) (project_of F) R L (λ k. ended (c + 1) (n + k) later) (numbers_of later)
+    (λ k. run_number F Rs (cycle_of F R L).lent (c + 1) (n + k))
 
-unless-number : (n : ℕ) (e : End) (ns : List ℕ) → endNumber e ≡ firstNumber ns →
-    endNumber (unlessRefused n e) ≡ firstNumber (number_of (told n) ∷ ns)
-unfolding firstNumber
-unless-number zero e ns h = h
-unless-number (suc n) e ns h = sym (ap (λ (m : ℕ). firstNumber (m ∷ ns)) (told-number (suc n)))
+unless_number : (n : ℕ) (e : End) (ns : List ℕ) → end_number e ≡ first_number ns →
+    end_number (unless_refused n e) ≡ first_number (number_of (told n) ∷ ns)
+unfolding first_number
+unless_number zero e ns h = h
+unless_number (suc n) e ns h = sym (ap (λ (m : ℕ). first_number (m ∷ ns)) (told_number_is (suc n)))
 
-number : (F : List ℕ) → endNumber (end_of F) ≡ firstNumber (number_of (verdict F) ∷ numbersOf (calls F))
-unfolding end_of runEnd calls verdict
+number : (F : List ℕ) → end_number (end_of F) ≡ first_number (number_of (verdict F) ∷ numbers_of (calls F))
+unfolding end_of run_end calls verdict
 number F =
-    unless-number (first (fileTable F)) (runEnd F) (numbersOf (calls F))
-    (run-number F (recordsFrom F 0 (recordCount F)) (freshLent F) 0 0)
+    unless_number (first (file_table F)) (run_end F) (numbers_of (calls F))
+    (run_number F (records_from F 0 (record_count F)) (fresh_lent F) 0 0)
 
 -- ---- two files that are alike
 
@@ -152,78 +152,78 @@ module _ {P P' : Project} (alike : Alike P P') where
       let b = f.block in
       let k = kind-same alike b in
       let p = parameters-same alike b in
-      λ i. findingLine c b f.text f.diagnosis (shownAs (familyOf (k i)) (k i) (p i) 0) f.first
-      (shownAs (familyOf (k i)) (k i) (p i) 1) f.second
+      λ i. finding_line c b f.text f.diagnosis (shown_as (family_of (k i)) (k i) (p i) 0) f.first
+      (shown_as (family_of (k i)) (k i) (p i) 1) f.second
 
   lines_same : (c k : ℕ) (D : List ℕ) → lines_of P.blocks c k D ≡ lines_of P'.blocks c k D
   unfolding lines_of
   lines_same c zero D = refl
   lines_same c (suc k) D =
-      ap₂ (λ (x y : List ℕ). x ++ y) (lines_same c k D) (line_same c (findingIn (row_of findingSize k D)))
+      ap₂ (λ (x y : List ℕ). x ++ y) (lines_same c k D) (line_same c (finding_in (row_of finding_size k D)))
 
   texts-by : (a : Answer) (x y : ℕ → List ℕ) (xs ys : List (List ℕ)) →
       ((k : ℕ) → x k ≡ y k) → xs ≡ ys →
-      goesOn a (λ _. []) (λ k. x k ∷ xs) ≡ goesOn a (λ _. []) (λ k. y k ∷ ys)
+      goes_on a (λ _. []) (λ k. x k ∷ xs) ≡ goes_on a (λ _. []) (λ k. y k ∷ ys)
   texts-by (Findings k) x y xs ys h e = ap₂ (λ (t : List ℕ) (ts : List (List ℕ)). t ∷ ts) (h k) e
   texts-by (Refused m) x y xs ys h e = refl
 
-  texts-same : (c : ℕ) (ls : List Left) → textsFrom P.blocks c ls ≡ textsFrom P'.blocks c ls
-  unfolding textsFrom
+  texts-same : (c : ℕ) (ls : List Left) → texts_from P.blocks c ls ≡ texts_from P'.blocks c ls
+  unfolding texts_from
   texts-same c [] = refl
   texts-same c (l ∷ ls) =
       texts-by l.answer (λ k. lines_of P.blocks (c + 1) k l.lent.findings)
-      (λ k. lines_of P'.blocks (c + 1) k l.lent.findings) (textsFrom P.blocks (c + 1) ls)
-      (textsFrom P'.blocks (c + 1) ls) (λ k. lines_same (c + 1) k l.lent.findings) (texts-same (c + 1) ls)
+      (λ k. lines_of P'.blocks (c + 1) k l.lent.findings) (texts_from P.blocks (c + 1) ls)
+      (texts_from P'.blocks (c + 1) ls) (λ k. lines_same (c + 1) k l.lent.findings) (texts-same (c + 1) ls)
 
 module _ (F F' : List ℕ) (ok : verdict F ≡ Accepted) (ok' : verdict F' ≡ Accepted)
-    (alike : Alike (projectOf F) (projectOf F')) (same : bodyIn F bodyT ≡ bodyIn F' bodyT) where
-  size_same : recordSize (bodyIn F body_g) (bodyIn F bodyI) ≡ recordSize (bodyIn F' body_g) (bodyIn F' bodyI)
-  unfolding projectOf
-  size_same = ap₂ recordSize alike.groups alike.inputs
+    (alike : Alike (project_of F) (project_of F')) (same : body_in F body_t ≡ body_in F' body_t) where
+  size_same : record_size (body_in F body_g) (body_in F body_i) ≡ record_size (body_in F' body_g) (body_in F' body_i)
+  unfolding project_of
+  size_same = ap₂ record_size alike.groups alike.inputs
 
-  record_same : (k : ℕ) → recordOf F k ≡ recordOf F' k
-  unfolding recordOf
+  record_same : (k : ℕ) → record_of F k ≡ record_of F' k
+  unfolding record_of
   record_same k = ap₂ (λ (w : ℕ) (T : List ℕ). row_of w k T) size_same same
 
-  count_same : recordCount F ≡ recordCount F'
-  unfolding recordCount
+  count_same : record_count F ≡ record_count F'
+  unfolding record_count
   count_same = ap₂ (λ (T : List ℕ) (w : ℕ). length T / w) same size_same
 
-  records-same : (k m : ℕ) → recordsFrom F k m ≡ recordsFrom F' k m
-  unfolding recordsFrom
+  records-same : (k m : ℕ) → records_from F k m ≡ records_from F' k m
+  unfolding records_from
   records-same k zero = refl
   records-same k (suc m) =
       ap₂ (λ (r : List ℕ) (rs : List (List ℕ)). r ∷ rs) (record_same k) (records-same (k + 1) m)
 
-  fresh-same : freshLent F ≡ freshLent F'
-  unfolding freshLent freshFor findingsLength
-  fresh-same =
+  fresh_same : fresh_lent F ≡ fresh_lent F'
+  unfolding fresh_lent fresh_for findings_length
+  fresh_same =
       let n = blocks-same alike in
       λ i. lends
-      (replicate (stateHead (groupCount (alike.groups i))) 0 ++ gather (n i) (λ b. freshBytes))
-      (replicate (outputsLength (alike.outputs i)) 0) (replicate (findingSize * n i) 0)
+      (replicate (state_head (group_count (alike.groups i))) 0 ++ gather (n i) (λ b. fresh_bytes))
+      (replicate (outputs_length (alike.outputs i)) 0) (replicate (finding_size * n i) 0)
 
   calls_same : calls F ≡ calls F'
   unfolding calls Demand3
   calls_same =
-      demand3 F F' ok ok' alike (recordsFrom F 0 (recordCount F)) (freshLent F)
-      ∙ (λ i. run F' ((records-same 0 (recordCount F) ∙ ap (recordsFrom F' 0) count_same) i) (fresh-same i))
+      demand3 F F' ok ok' alike (records_from F 0 (record_count F)) (fresh_lent F)
+      ∙ (λ i. run F' ((records-same 0 (record_count F) ∙ ap (records_from F' 0) count_same) i) (fresh_same i))
 
-  renumbered : (end_of F ≡ end_of F') × (traceText F ≡ traceText F')
-  unfolding end_of runEnd traceText texts
+  renumbered : (end_of F ≡ end_of F') × (trace_text F ≡ trace_text F')
+  unfolding end_of run_end trace_text texts
   renumbered =
       let e : end_of F ≡ end_of F' =
-      ap₂ (λ (n : ℕ) (ls : List Left). unlessRefused n (ended 0 0 ls))
+      ap₂ (λ (n : ℕ) (ls : List Left). unless_refused n (ended 0 0 ls))
       (accepted-zero F ok ∙ sym (accepted-zero F' ok')) calls_same in (
         e,
-        ap₂ (λ (ts : List (List ℕ)) (x : End). joined ts ++ lastLine x)
-            (texts-same alike 0 (calls F) ∙ ap (textsFrom (projectOf F').blocks 0) calls_same) e,
+        ap₂ (λ (ts : List (List ℕ)) (x : End). joined ts ++ last_line x)
+            (texts-same alike 0 (calls F) ∙ ap (texts_from (project_of F').blocks 0) calls_same) e,
       )
 
 pub traces : Traces
 unfolding verdict
 traces = record {
-  refused = λ F n e. refused F n (sym (told-number (first (fileTable F))) ∙ e);
+  refused = λ F n e. refused F n (sym (told_number_is (first (file_table F))) ∙ e);
   folded = folded;
   number = number;
   renumbered = renumbered;

@@ -2,13 +2,13 @@
 -- and dismissed one, and a script closed a third as real; a script dismissed two in month 3, and one in month 12.
 use Rattle.std.specs.Prelude.{ℕ, List, [], ◌∷◌, ◌++◌}
 use Prim.Native.String.{String}
-use Rattle.report.specs.Lines.{lineFeed}
+use Rattle.report.specs.Lines.{line_feed}
 use Rattle.report.specs.Samples.{codes}
 
 -- 02, W4: a contents table of 12 entries, start and length; months 1, 3 and 12 have findings, the other bodies are
 -- empty
-abbrev pub exampleContents : List ℕ
-exampleContents =
+abbrev pub example_contents : List ℕ
+example_contents =
     96 ∷ 0 ∷ 0 ∷ 0 ∷ 18 ∷ 0 ∷ 0 ∷ 0
     ∷ 114 ∷ 0 ∷ 0 ∷ 0 ∷ 0 ∷ 0 ∷ 0 ∷ 0
     ∷ 114 ∷ 0 ∷ 0 ∷ 0 ∷ 12 ∷ 0 ∷ 0 ∷ 0
@@ -24,8 +24,8 @@ exampleContents =
     ∷ []
 
 -- 02, W4: a finding is block, zero, text ID, closed by, verdict
-abbrev pub exampleFindings : List ℕ
-exampleFindings =
+abbrev pub example_findings : List ℕ
+example_findings =
     0 ∷ 0 ∷ 0x81 ∷ 0x40 ∷ 0 ∷ 0
     ∷ 63 ∷ 0 ∷ 0x80 ∷ 0x40 ∷ 0 ∷ 1
     ∷ 7 ∷ 0 ∷ 0xFF ∷ 0xFF ∷ 1 ∷ 0
@@ -34,17 +34,17 @@ exampleFindings =
     ∷ 9 ∷ 0 ∷ 0x81 ∷ 0x40 ∷ 1 ∷ 1
     ∷ []
 
-unfoldable pub exampleLedger : List ℕ
-exampleLedger = exampleContents ++ exampleFindings
+unfoldable pub example_ledger : List ℕ
+example_ledger = example_contents ++ example_findings
 
 -- general: lines of text
 unfoldable pub lines_of : List String → List ℕ
 lines_of [] = []
-lines_of (s ∷ ss) = codes s ++ lineFeed ++ lines_of ss
+lines_of (s ∷ ss) = codes s ++ line_feed ++ lines_of ss
 
 -- 02, W4: the whole table twice, with and without script closings
-abbrev pub examplePrints : List ℕ
-examplePrints =
+abbrev pub example_prints : List ℕ
+example_prints =
     lines_of
     ("table with"
     ∷ "month 1 3 1 3fd5555555555555"

@@ -1,8 +1,8 @@
 -- What is promised of a ledger, over bytes (02, W4). F is the file. The contract of `year::year_of` is an equation with
--- `yearOf F`, that of `year::check` one with its number, and the function of `yearbook` that writes requires
--- `ledgerText F`, so what is proved of these holds of the code. The proof is `ledgers` of proofs/Ledgers.antt.
+-- `year_of F`, that of `year::check` one with its number, and the function of `yearbook` that writes requires
+-- `ledger_text F`, so what is proved of these holds of the code. The proof is `ledgers` of proofs/Ledgers.antt.
 --
--- That it speaks of something is computed in proofs/LedgerText.antt: `example-text` has the two tables of a ledger of
+-- That it speaks of something is computed in proofs/LedgerText.antt: `example_text` has the two tables of a ledger of
 -- six findings as the program prints them.
 use Rattle.std.specs.Prelude.{ℕ, ◌+◌, ◌*◌, ◌<◌, ◌≤◌, ◌≡◌, ◌↔◌, ◌≢◌, true, false, List, ltb, pos}
 use Rattle.std.specs.Float.{fin, binary64}
@@ -15,28 +15,28 @@ use Rattle.year.specs.declared.Share.{Share}
 use Rattle.year.specs.declared.Share.TheVariants.{Rate, Nothing}
 use Rattle.year.specs.declared.Bend.TheVariants.{After, Nothing as NoBend}
 use Rattle.year.specs.declared.Table.{Table}
-use Rattle.year.specs.Ledger.{monthCount, monthMost, ledgerTable, ledgerNumber}
+use Rattle.year.specs.Ledger.{month_count, month_most, ledger_table, ledger_number}
 use Rattle.year.specs.Months.{found, dismissed, line_of, share_of, bits_of}
-use Rattle.year.specs.Bends.{line_at, sidesAt, bothSides, under, larger, bendOf}
-use Rattle.year.specs.Year.{table_of, yearOf}
+use Rattle.year.specs.Bends.{line_at, sides_at, both_sides, under, larger, bend_of}
+use Rattle.year.specs.Year.{table_of, year_of}
 use Rattle.year.specs.Nearest.{Nearest}
-use Rattle.year.specs.Built.{byPersonOnly, withoutScript}
+use Rattle.year.specs.Built.{by_person_only, without_script}
 use Rattle.demands.specs.Demands.{Numbered}
 
 -- ---- the number
 
 -- 02, W4: no table: twelve lines without a finding, and no bend (DECISIONS 57)
 pub record NoTable (t : Table) : Type 0 where
-  pub line : (m : ℕ) → m < monthCount → line_at t.lines m ≡ line_of 0 0
+  pub line : (m : ℕ) → m < month_count → line_at t.lines m ≡ line_of 0 0
   pub share : share_of (line_of 0 0) ≡ Nothing
   pub bend : t.bend ≡ NoBend
 
 -- 02, W4: 21 to 24 in this order, exactly then; each gives no table, and an accepted ledger has both
 pub record LedgerAnswered (F : List ℕ) : Type 0 where
-  pub number : Numbered (ledgerTable F) (yearOf F).number
-  pub refused : (yearOf F).number ≢ 0 → NoTable (yearOf F).every × NoTable (yearOf F).person
+  pub number : Numbered (ledger_table F) (year_of F).number
+  pub refused : (year_of F).number ≢ 0 → NoTable (year_of F).every × NoTable (year_of F).person
   pub accepted :
-      (yearOf F).number ≡ 0 → ((yearOf F).every ≡ table_of Every F) × ((yearOf F).person ≡ table_of Person F)
+      (year_of F).number ≡ 0 → ((year_of F).every ≡ table_of Every F) × ((year_of F).person ≡ table_of Person F)
 
 -- ---- a line
 
@@ -60,7 +60,7 @@ pub record Shared (n d : ℕ) (s : Share) : Type 0 where
 pub record Lined (c : Closings) (F : List ℕ) (m : ℕ) (l : Line) : Type 0 where
   pub findings : l.findings ≡ found c (body_of F m)
   pub dismissed : l.dismissed ≡ dismissed c (body_of F m)
-  pub few : l.findings ≤ monthMost
+  pub few : l.findings ≤ month_most
   pub part : l.dismissed ≤ l.findings
   pub share : Shared l.findings l.dismissed (share_of l)
   pub field : l.findings ≡ 0 → l.rate ≡ fin false 0 (pos 0)
@@ -70,19 +70,19 @@ pub record Lined (c : Closings) (F : List ℕ) (m : ℕ) (l : Line) : Type 0 whe
 -- 02, W4: month m, from 0, is the bend: it is among those with a finding on both sides, none of them has a larger
 -- difference, and each earlier one has a smaller
 pub record Bent (L : List Line) (m : ℕ) : Type 0 where
-  pub month : m < monthCount
-  pub sides : bothSides (sidesAt L m) ≡ true
+  pub month : m < month_count
+  pub sides : both_sides (sides_at L m) ≡ true
   pub most :
-      (k : ℕ) → k < monthCount → bothSides (sidesAt L k) ≡ true → larger (sidesAt L k) (sidesAt L m) ≡ false
+      (k : ℕ) → k < month_count → both_sides (sides_at L k) ≡ true → larger (sides_at L k) (sides_at L m) ≡ false
   pub earliest :
-      (k : ℕ) → k < m → bothSides (sidesAt L k) ≡ true → larger (sidesAt L m) (sidesAt L k) ≡ true
+      (k : ℕ) → k < m → both_sides (sides_at L k) ≡ true → larger (sides_at L m) (sides_at L k) ≡ true
 
 -- 02, W4: two months have a finding
 pub record TwoMonths (L : List Line) : Type 0 where
   pub first : ℕ
   pub second : ℕ
   pub apart : first < second
-  pub month : second < monthCount
+  pub month : second < month_count
   pub findings : 0 < (line_at L first).findings
   pub others : 0 < (line_at L second).findings
 
@@ -90,13 +90,13 @@ pub record TwoMonths (L : List Line) : Type 0 where
 -- when fewer than two months have one. With r of R dismissed later and l of L up to a month, the comparison is that of
 -- r / R - l / L, brought to one denominator, each subtracted term on the other side
 pub record BendFound (L : List Line) : Type 0 where
-  pub after : (m : ℕ) → (bendOf L ≡ After (m + 1)) ↔ Bent L m
-  pub none : (bendOf L ≡ NoBend) ↔ ((m : ℕ) → m < monthCount → bothSides (sidesAt L m) ≡ false)
-  pub two : (bendOf L ≢ NoBend) ↔ TwoMonths L
+  pub after : (m : ℕ) → (bend_of L ≡ After (m + 1)) ↔ Bent L m
+  pub none : (bend_of L ≡ NoBend) ↔ ((m : ℕ) → m < month_count → both_sides (sides_at L m) ≡ false)
+  pub two : (bend_of L ≢ NoBend) ↔ TwoMonths L
   pub compared :
-      (k m : ℕ) → k < monthCount → m < monthCount →
-      let s = sidesAt L k in
-      let t = sidesAt L m in
+      (k m : ℕ) → k < month_count → m < month_count →
+      let s = sides_at L k in
+      let t = sides_at L m in
       larger s t
       ≡ ltb
       (t.later.dismissed * t.upto.findings * under s + s.upto.dismissed * s.later.findings * under t)
@@ -107,9 +107,9 @@ pub record BendFound (L : List Line) : Type 0 where
 -- 02, W4: the second table of an accepted ledger is the first table of the ledger without its script closings: that one
 -- is accepted, and each of its bodies has the findings that a person closed, in their order
 pub record SecondTable (F : List ℕ) : Type 0 where
-  pub accepted : ledgerNumber (withoutScript F) ≡ 0
-  pub bodies : (m : ℕ) → m < monthCount → body_of (withoutScript F) m ≡ byPersonOnly (body_of F m)
-  pub table : table_of Every (withoutScript F) ≡ table_of Person F
+  pub accepted : ledger_number (without_script F) ≡ 0
+  pub bodies : (m : ℕ) → m < month_count → body_of (without_script F) m ≡ by_person_only (body_of F m)
+  pub table : table_of Every (without_script F) ≡ table_of Person F
 
 -- ---- all of it
 
@@ -117,8 +117,8 @@ pub record SecondTable (F : List ℕ) : Type 0 where
 pub record Ledgers : Type 0 where
   pub answered : (F : List ℕ) → LedgerAnswered F
   pub lines :
-      (c : Closings) (F : List ℕ) → ledgerNumber F ≡ 0 → (m : ℕ) → m < monthCount →
+      (c : Closings) (F : List ℕ) → ledger_number F ≡ 0 → (m : ℕ) → m < month_count →
       Lined c F m (line_at (table_of c F).lines m)
-  pub bends : (c : Closings) (F : List ℕ) → ledgerNumber F ≡ 0 → BendFound (table_of c F).lines
-  pub bend : (c : Closings) (F : List ℕ) → (table_of c F).bend ≡ bendOf (table_of c F).lines
-  pub second : (F : List ℕ) → ledgerNumber F ≡ 0 → SecondTable F
+  pub bends : (c : Closings) (F : List ℕ) → ledger_number F ≡ 0 → BendFound (table_of c F).lines
+  pub bend : (c : Closings) (F : List ℕ) → (table_of c F).bend ≡ bend_of (table_of c F).lines
+  pub second : (F : List ℕ) → ledger_number F ≡ 0 → SecondTable F

@@ -3,16 +3,16 @@
 -- lent, over plain lists and numbers, and what it is to have one answer. proofs/Second.antt has it of each function.
 use Rattle.std.specs.Prelude.{ℕ, ◌≡◌, Bool, List, Float}
 use Rattle.std.proofs.lemmas.List.Edits.{sets}
-use Rattle.block.specs.State.{entersFrom}
+use Rattle.block.specs.State.{enters_from}
 use Rattle.report.specs.Lines.{Printed}
 use Rattle.evaluator.specs.declared.Answer.{Answer}
-use Rattle.evaluator.specs.Answer.{Lent, cycleOf}
-use Rattle.evaluator.specs.Fresh.{sizesOf, sizesNumber, freshNumber, freshLeft}
-use Rattle.evaluator.specs.Steps.{stepAnswer, stepState, stepFindings}
-use Rattle.hagglethwait.specs.Calls.{stateSaid, outputsSaid, findingsSaid}
-use Rattle.hagglethwait.specs.Ledgers.{findingsLeft, dismissedLeft, ratesLeft, bendsLeft}
-use Rattle.year.specs.Ledger.{ledgerNumber}
-use Rattle.year.specs.Year.{yearOf}
+use Rattle.evaluator.specs.Answer.{Lent, cycle_of}
+use Rattle.evaluator.specs.Fresh.{sizes_of, sizes_number, fresh_number, fresh_left}
+use Rattle.evaluator.specs.Steps.{step_answer, step_state, step_findings}
+use Rattle.hagglethwait.specs.Calls.{state_said, outputs_said, findings_said}
+use Rattle.hagglethwait.specs.Ledgers.{findings_left, dismissed_left, rates_left, bends_left}
+use Rattle.year.specs.Ledger.{ledger_number}
+use Rattle.year.specs.Year.{year_of}
 
 -- ---- the words, by the names of the contracts' clauses; x is what comes out
 
@@ -23,7 +23,7 @@ Gives defined x = x ≡ defined
 -- 01, "One cycle": a step of `block` that makes `made` of a block's bytes, which were `old`
 pub record TurnWords (made old : List ℕ) (x : record { answer : Bool; bytes : List ℕ }) : Type 0 where
   pub left : x.bytes ≡ sets old 0 made
-  pub enters : x.answer ≡ entersFrom old made
+  pub enters : x.answer ≡ enters_from old made
 
 -- 01, "The trace program": a line of `report`, in a buffer whose bytes were `old`
 abbrev pub LineWords : List ℕ → List ℕ → record { answer : ℕ; bytes : List ℕ } → Type 0
@@ -32,30 +32,30 @@ LineWords line old x = Printed line old x.bytes x.answer
 -- 01, "Turned down": `evaluator::cycle`, and the call for C, which tells the answer as a number
 pub record CycleWords {N : Type 0} (tells : Answer → N) (F R : List ℕ) (L : Lent)
     (x : record { answer : N; lent : Lent }) : Type 0 where
-  pub answered : x.answer ≡ tells (cycleOf F R L).answer
-  pub left : x.lent.state ≡ (cycleOf F R L).lent.state
-  pub shown : x.lent.outputs ≡ (cycleOf F R L).lent.outputs
-  pub told : x.lent.findings ≡ (cycleOf F R L).lent.findings
+  pub answered : x.answer ≡ tells (cycle_of F R L).answer
+  pub left : x.lent.state ≡ (cycle_of F R L).lent.state
+  pub shown : x.lent.outputs ≡ (cycle_of F R L).lent.outputs
+  pub told : x.lent.findings ≡ (cycle_of F R L).lent.findings
 
 -- 01, "Block state", Fresh: `evaluator::fresh`, and the call for C, into a buffer whose bytes were `old`
 pub record FreshWords (F old : List ℕ) (x : record { answer : ℕ; bytes : List ℕ }) : Type 0 where
-  pub answered : x.answer ≡ freshNumber F old
-  pub left : x.bytes ≡ freshLeft F old
+  pub answered : x.answer ≡ fresh_number F old
+  pub left : x.bytes ≡ fresh_left F old
 
 -- 01, "The trace program": `evaluator::unchecked::step`, a cycle inside a trace
 pub record StepWords (G I B R S D : List ℕ)
     (x : record { answer : Answer; state : List ℕ; findings : List ℕ }) : Type 0 where
-  pub answered : x.answer ≡ stepAnswer G I B R S
-  pub left : x.state ≡ stepState G I B R S
-  pub told : x.findings ≡ stepFindings G I B R S D
+  pub answered : x.answer ≡ step_answer G I B R S
+  pub left : x.state ≡ step_state G I B R S
+  pub told : x.findings ≡ step_findings G I B R S D
 
 -- 01, "Turned down", Sizes: `hagglethwait_sizes`, which is lent the numbers s, o and d
 pub record SizesWords (F : List ℕ) (s o d : ℕ)
     (x : record { answer : ℕ; state : ℕ; outputs : ℕ; findings : ℕ }) : Type 0 where
-  pub answered : x.answer ≡ sizesNumber (sizesOf F)
-  pub stated : x.state ≡ stateSaid (sizesOf F) s
-  pub shown : x.outputs ≡ outputsSaid (sizesOf F) o
-  pub told : x.findings ≡ findingsSaid (sizesOf F) d
+  pub answered : x.answer ≡ sizes_number (sizes_of F)
+  pub stated : x.state ≡ state_said (sizes_of F) s
+  pub shown : x.outputs ≡ outputs_said (sizes_of F) o
+  pub told : x.findings ≡ findings_said (sizes_of F) d
 
 -- 02, W4: `hagglethwait_ledger`, which is lent what L holds
 pub record Columns : Type 0 where
@@ -68,11 +68,11 @@ abbrev pub columns : List ℕ → List ℕ → List Float → List ℕ → Colum
 columns f d r b = record { findings = f; dismissed = d; rates = r; bends = b }
 
 pub record LedgerWords (F : List ℕ) (L : Columns) (x : record { answer : ℕ; lent : Columns }) : Type 0 where
-  pub answered : x.answer ≡ ledgerNumber F
-  pub found : x.lent.findings ≡ findingsLeft (yearOf F) L.findings
-  pub gone : x.lent.dismissed ≡ dismissedLeft (yearOf F) L.dismissed
-  pub rated : x.lent.rates ≡ ratesLeft (yearOf F) L.rates
-  pub bent : x.lent.bends ≡ bendsLeft (yearOf F) L.bends
+  pub answered : x.answer ≡ ledger_number F
+  pub found : x.lent.findings ≡ findings_left (year_of F) L.findings
+  pub gone : x.lent.dismissed ≡ dismissed_left (year_of F) L.dismissed
+  pub rated : x.lent.rates ≡ rates_left (year_of F) L.rates
+  pub bent : x.lent.bends ≡ bends_left (year_of F) L.bends
 
 -- ---- one answer
 

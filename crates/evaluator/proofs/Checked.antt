@@ -5,91 +5,91 @@ use Rattle.wire.proofs.Usual.{List, [], ◌∷◌, ◌++◌, ℕ, ◌+◌, ◌*�
 use Rattle.wire.proofs.Usual.{replicate, length-append, length-drop}
 use mathlib.Core.Logic.{⊎_elim}
 use lib.ListN.{get_or-append}
-use Rattle.wire.specs.Words.{byteAt, bytes4}
+use Rattle.wire.specs.Words.{byte_at, bytes4}
 use Rattle.wire.specs.Records.{gather}
 use Rattle.wire.specs.Places.{all}
-use Rattle.wire.proofs.Places.{all-each, all_true, both_left}
-use Rattle.wire.proofs.Records.{lt-or-gt, slot-gather, gather-same, length-gather}
-use Rattle.kind.specs.Devices.{isErrAck}
+use Rattle.wire.proofs.Places.{all_each, all_true, both_left}
+use Rattle.wire.proofs.Records.{lt_or_gt, slot-gather, gather_same, length-gather}
+use Rattle.kind.specs.Devices.{is_err_ack}
 use Rattle.project.specs.declared.Counts.{Counts}
 use Rattle.casefile.specs.Sound.{Sound}
-use Rattle.project.specs.Project.{blockCount, blockSize, device, groupCount, headSize, kind_of, order_of, outputBlock}
-use Rattle.project.specs.Project.{outputCount, outputPort, parametersOf, word_size}
+use Rattle.project.specs.Project.{block_count, block_size, device, group_count, head_size, kind_of, order_of, output_block}
+use Rattle.project.specs.Project.{output_count, output_port, parameters_of, word_size}
 use Rattle.casefile.proofs.Execution.{block-at-is, block-at-lt}
-use Rattle.block.specs.Finding.{findingSize}
-use Rattle.block.specs.State.{stateSize}
-use Rattle.block.specs.Formed.{wellFormed}
-use Rattle.evaluator.specs.Asks.{Standing, Due, Ranked, Running, orderList, errorList, groupWith, Grouped}
-use Rattle.evaluator.specs.Asks.{Admitted, Begun, Decided, Noted, Ordered, Ready, Showing, entersWith}
-use Rattle.evaluator.specs.Asks.{isNoted}
-use Rattle.evaluator.specs.Asks.{noteIn, outputShown, ranWith, slotWith}
-use Rattle.evaluator.specs.State.{cell, cellFormed, findingsLength, groupByte, groupFormed, headFormed}
-use Rattle.evaluator.specs.State.{isAcknowledged, is_held, outputsLength, stateFormed, stateHead, stateLength}
-use Rattle.evaluator.specs.Groups.{controlByte, groupFrom, groupNext, hasError, newGroup, pends}
-use Rattle.evaluator.specs.Cycle.{findingCount, newBlock, newFindings, newHead, newOutputs, newState}
-use Rattle.evaluator.specs.Cycle.{outputWord, portShows}
+use Rattle.block.specs.Finding.{finding_size}
+use Rattle.block.specs.State.{state_size}
+use Rattle.block.specs.Formed.{well_formed}
+use Rattle.evaluator.specs.Asks.{Standing, Due, Ranked, Running, order_list, error_list, group_with, Grouped}
+use Rattle.evaluator.specs.Asks.{Admitted, Begun, Decided, Noted, Ordered, Ready, Showing, enters_with}
+use Rattle.evaluator.specs.Asks.{is_noted}
+use Rattle.evaluator.specs.Asks.{note_in, output_shown, ran_with, slot_with}
+use Rattle.evaluator.specs.State.{cell, cell_formed, findings_length, group_byte, group_formed, head_formed}
+use Rattle.evaluator.specs.State.{is_acknowledged, is_held, outputs_length, state_formed, state_head, state_length}
+use Rattle.evaluator.specs.Groups.{control_byte, group_from, group_next, has_error, new_group, pends}
+use Rattle.evaluator.specs.Cycle.{finding_count, new_block, new_findings, new_head, new_outputs, new_state}
+use Rattle.evaluator.specs.Cycle.{output_word, port_shows}
 use Rattle.wire.specs.Packed.{hits, packed}
-use Rattle.evaluator.proofs.Cycles.{block-formed, block-length, count-new, count_none, decidedState}
-use Rattle.evaluator.proofs.Cycles.{findings-new, findings-none, group-is, head-long, state-new, all_noted}
-use Rattle.evaluator.proofs.Ranking.{order-ranked}
-use Rattle.evaluator.proofs.Deciding.{row-at, row-length}
+use Rattle.evaluator.proofs.Cycles.{block-formed, block-length, count-new, count_none, decided_state}
+use Rattle.evaluator.proofs.Cycles.{findings-new, findings-none, group_is, head-long, state-new, all_noted}
+use Rattle.evaluator.proofs.Ranking.{order_ranked}
+use Rattle.evaluator.proofs.Deciding.{row_at_is, row-length}
 
 -- ---- a group's byte stays well formed
 
-next-formed : (p a b c : Bool) (old : ℕ) → groupFormed old ≡ true →
-    groupFormed (cond p 1 (cond a 3 (cond (b && c) 0 old))) ≡ true
-next-formed true a b c old h = refl
-next-formed false true b c old h = refl
-next-formed false false true true old h = refl
-next-formed false false true false old h = h
-next-formed false false false c old h = h
+next_formed : (p a b c : Bool) (old : ℕ) → group_formed old ≡ true →
+    group_formed (cond p 1 (cond a 3 (cond (b && c) 0 old))) ≡ true
+next_formed true a b c old h = refl
+next_formed false true b c old h = refl
+next_formed false false true true old h = refl
+next_formed false false true false old h = h
+next_formed false false false c old h = h
 
-group-formed : (G B R S : List ℕ) (g : ℕ) → groupFormed (groupByte S g) ≡ true →
-    groupFormed (newGroup G B R S g) ≡ true
-unfolding newGroup groupFrom groupNext
-group-formed G B R S g f =
-    let v = controlByte R g in
-    let old = groupByte S g in
-    next-formed (pends (device G) v (hasError (groupCount G) B S g)) (is_held old && isErrAck v)
-    (is_held old && isAcknowledged old) (not (isErrAck v)) old f
+group_is_formed : (G B R S : List ℕ) (g : ℕ) → group_formed (group_byte S g) ≡ true →
+    group_formed (new_group G B R S g) ≡ true
+unfolding new_group group_from group_next
+group_is_formed G B R S g f =
+    let v = control_byte R g in
+    let old = group_byte S g in
+    next_formed (pends (device G) v (has_error (group_count G) B S g)) (is_held old && is_err_ack v)
+    (is_held old && is_acknowledged old) (not (is_err_ack v)) old f
 
 -- ---- what the checks say, for each part
 
-module _ {G B : List ℕ} {n h c : ℕ} (g : Sound G B n) (heads : h ≡ groupCount G)
-    (count : c ≡ blockCount B) where
-  pub standing : (S : List ℕ) → length S ≡ stateLength G B → Standing B S h
-  unfolding stateLength
+module _ {G B : List ℕ} {n h c : ℕ} (g : Sound G B n) (heads : h ≡ group_count G)
+    (count : c ≡ block_count B) where
+  pub standing : (S : List ℕ) → length S ≡ state_length G B → Standing B S h
+  unfolding state_length
   standing S s = record {
     long = g.long;
-    fewBlocks = g.fewBlocks;
-    few = rw heads g.fewGroups;
-    state = s ∙ ap (λ (k : ℕ). stateHead k + stateSize * blockCount B) (sym heads);
+    few_blocks = g.few_blocks;
+    few = rw heads g.few_groups;
+    state = s ∙ ap (λ (k : ℕ). state_head k + state_size * block_count B) (sym heads);
   }
 
   pub grouped : Grouped B c
   grouped = record {
     count = count;
-    few = rw count g.fewBlocks;
-    groups = λ b q. omega (arith, g.group b (rw count at q), g.fewGroups);
+    few = rw count g.few_blocks;
+    groups = λ b q. omega (arith, g.group b (rw count at q), g.few_groups);
   }
 
-  orders-apart : (a b : ℕ) → a < blockCount B → b < blockCount B → a ≢ b → order_of B a ≢ order_of B b
+  orders-apart : (a b : ℕ) → a < block_count B → b < block_count B → a ≢ b → order_of B a ≢ order_of B b
   orders-apart a b p q n x =
-      ⊎_elim (λ k. g.orderOther a b k q x) (λ k. g.orderOther b a k p (sym x)) (lt-or-gt a b n)
+      ⊎_elim (λ k. g.order_other a b k q x) (λ k. g.order_other b a k p (sym x)) (lt_or_gt a b n)
 
   pub ordered : Ordered B c
   ordered = record {
     count = count;
-    long = g.long ∙ ap (λ (n : ℕ). blockSize * n) (sym count);
-    few = rw count g.fewBlocks;
-    below = λ b q. rw count (g.orderBelow b (rw count at q));
+    long = g.long ∙ ap (λ (n : ℕ). block_size * n) (sym count);
+    few = rw count g.few_blocks;
+    below = λ b q. rw count (g.order_below b (rw count at q));
     apart = λ a b p q. orders-apart a b (rw count at p) (rw count at q);
     lands = λ e q. (rw count (block-at-lt g e (rw count at q)), block-at-is g e (rw count at q));
   }
 
   -- a block's turn
-  pub due : (R H : List ℕ) (b : ℕ) → length R ≡ headSize + groupCount G + word_size * n → length H ≡ 8 →
-      b < blockCount B → Due h B R H b
+  pub due : (R H : List ℕ) (b : ℕ) → length R ≡ head_size + group_count G + word_size * n → length H ≡ 8 →
+      b < block_count B → Due h B R H b
   due R H b r e l = record {
     inside = l;
     group = rw heads (g.group b l);
@@ -109,42 +109,42 @@ module _ {c : Counts} {G B K E R S D : List ℕ} (r : Ready c G B K E R S D) whe
   abbrev t : Begun c r.inputs G B K E S D
   t = r.begun
 
-  heads : c.groups ≡ groupCount G
+  heads : c.groups ≡ group_count G
   heads = t.groups
 
-  count : c.blocks ≡ blockCount B
+  count : c.blocks ≡ block_count B
   count = t.blocks
 
   pub few-heads : c.groups ≤ 8
-  few-heads = rw heads t.sound.fewGroups
+  few-heads = rw heads t.sound.few_groups
 
-  pub heads-fit : stateHead c.groups ≤ length S
-  unfolding stateLength
+  pub heads-fit : state_head c.groups ≤ length S
+  unfolding state_length
   heads-fit = omega (arith, t.size, heads)
 
   -- when the groups have decided
   module _ (H S1 : List ℕ)
-      (s : S1 ≡ gather c.groups (λ g. groupWith E G R S g ∷ []) ++ drop (stateHead c.groups) S)
+      (s : S1 ≡ gather c.groups (λ g. group_with E G R S g ∷ []) ++ drop (state_head c.groups) S)
       (d : Decided E G R S c.groups H) where
-    in-phases : Decided E G R S (groupCount G) H
+    in-phases : Decided E G R S (group_count G) H
     in-phases = subst (λ (k : ℕ). Decided E G R S k H) heads d
 
-    is-decided : S1 ≡ decidedState G B R S
-    unfolding newHead
+    is-decided : S1 ≡ decided_state G B R S
+    unfolding new_head
     is-decided =
-        s ∙ ap (λ (k : ℕ). gather k (λ g. groupWith E G R S g ∷ []) ++ drop (stateHead k) S) heads
-        ∙ ap (λ (x : List ℕ). x ++ drop (stateHead (groupCount G)) S)
-        (gather-same (groupCount G) (λ g. groupWith E G R S g ∷ []) (λ g. newGroup G B R S g ∷ [])
-        (λ g q i. group-is G B E R S H t.sound t.errors t.size t.formed in-phases g q i ∷ []))
+        s ∙ ap (λ (k : ℕ). gather k (λ g. group_with E G R S g ∷ []) ++ drop (state_head k) S) heads
+        ∙ ap (λ (x : List ℕ). x ++ drop (state_head (group_count G)) S)
+        (gather_same (group_count G) (λ g. group_with E G R S g ∷ []) (λ g. new_group G B R S g ∷ [])
+        (λ g q i. group_is G B E R S H t.sound t.errors t.size t.formed in-phases g q i ∷ []))
 
     decided-long : length S1 ≡ length S
     decided-long =
-        ap length s ∙ length-append (gather c.groups (λ g. groupWith E G R S g ∷ []))
-        (drop (stateHead c.groups) S)
-        ∙ omega (arith, row-length c.groups (groupWith E G R S), length-drop (stateHead c.groups) S, heads-fit)
+        ap length s ∙ length-append (gather c.groups (λ g. group_with E G R S g ∷ []))
+        (drop (state_head c.groups) S)
+        ∙ omega (arith, row-length c.groups (group_with E G R S), length-drop (state_head c.groups) S, heads-fit)
 
     pub running : Running c.groups B R H K S1 D c.blocks
-    unfolding findingsLength
+    unfolding findings_length
     running = record {
       standing = standing t.sound heads count S1 (decided-long ∙ t.size);
       count = count;
@@ -153,8 +153,8 @@ module _ {c : Counts} {G B K E R S D : List ℕ} (r : Ready c G B K E R S D) whe
       apart = o.apart;
       ranked =
           subst (λ (l : List ℕ). Ranked B c.blocks l) (sym t.order)
-          (subst (λ (k : ℕ). Ranked B k (orderList B)) (sym count) (order-ranked t.sound));
-      clean = t.clean ∙ ap (λ (k : ℕ). replicate (findingSize * k) 0) (sym count);
+          (subst (λ (k : ℕ). Ranked B k (order_list B)) (sym count) (order_ranked t.sound));
+      clean = t.clean ∙ ap (λ (k : ℕ). replicate (finding_size * k) 0) (sym count);
     }
       where
         o : Ordered B c.blocks
@@ -162,88 +162,88 @@ module _ {c : Counts} {G B K E R S D : List ℕ} (r : Ready c G B K E R S D) whe
 
     -- when the blocks have run
     pub ran-state : (S2 : List ℕ) →
-        S2 ≡ take (stateHead c.groups) S1 ++ gather c.blocks (ranWith c.groups B R H S1) →
-        S2 ≡ newState G B R S
+        S2 ≡ take (state_head c.groups) S1 ++ gather c.blocks (ran_with c.groups B R H S1) →
+        S2 ≡ new_state G B R S
     ran-state S2 e =
-        e ∙ (λ i. take (stateHead (heads i)) (is-decided i)
-        ++ gather (count i) (ranWith (heads i) B R H (is-decided i)))
+        e ∙ (λ i. take (state_head (heads i)) (is-decided i)
+        ++ gather (count i) (ran_with (heads i) B R H (is-decided i)))
         ∙ state-new G B E R S H t.sound t.errors t.size t.formed in-phases
 
-    module _ (D2 : List ℕ) (f : D2 ≡ gather c.blocks (slotWith c.groups B R H S1)) where
-      by-block : D2 ≡ gather (blockCount B) (slotWith (groupCount G) B R H (decidedState G B R S))
-      by-block = f ∙ (λ i. gather (count i) (slotWith (heads i) B R H (is-decided i)))
+    module _ (D2 : List ℕ) (f : D2 ≡ gather c.blocks (slot_with c.groups B R H S1)) where
+      by-block : D2 ≡ gather (block_count B) (slot_with (group_count G) B R H (decided_state G B R S))
+      by-block = f ∙ (λ i. gather (count i) (slot_with (heads i) B R H (is-decided i)))
 
       pub packable : Noted D2 c.blocks
       packable =
           subst (λ (l : List ℕ). Noted l c.blocks) (sym by-block)
           (rw count (all_noted G B E R S H t.sound t.errors t.size t.formed in-phases))
 
-      pub all-findings : (D3 : List ℕ) → D3 ≡ packed (findingSize * c.blocks) c.blocks (isNoted D2)
-          (noteIn D2) → D3 ≡ newFindings G B R S
+      pub all-findings : (D3 : List ℕ) → D3 ≡ packed (finding_size * c.blocks) c.blocks (is_noted D2)
+          (note_in D2) → D3 ≡ new_findings G B R S
       all-findings D3 e =
-          e ∙ (λ i. packed (findingSize * count i) (count i) (isNoted (by-block i)) (noteIn (by-block i)))
+          e ∙ (λ i. packed (finding_size * count i) (count i) (is_noted (by-block i)) (note_in (by-block i)))
           ∙ findings-new G B E R S H t.sound t.errors t.size t.formed in-phases
 
-      pub all-count : (k : ℕ) → k ≡ hits c.blocks (isNoted D2) → k ≡ findingCount G B R S
+      pub all-count : (k : ℕ) → k ≡ hits c.blocks (is_noted D2) → k ≡ finding_count G B R S
       all-count k e =
-          e ∙ (λ i. hits (count i) (isNoted (by-block i)))
+          e ∙ (λ i. hits (count i) (is_noted (by-block i)))
           ∙ count-new G B E R S H t.sound t.errors t.size t.formed in-phases
 
-      module _ (quiet : (b : ℕ) → b < c.blocks → entersWith c.groups B R H S1 b ≡ false) where
-        none-at : (b : ℕ) → b < blockCount B → entersWith (groupCount G) B R H (decidedState G B R S) b ≡ false
-        none-at b k = (λ i. entersWith (sym heads i) B R H (sym is-decided i) b) ∙ quiet b (rw count k)
+      module _ (quiet : (b : ℕ) → b < c.blocks → enters_with c.groups B R H S1 b ≡ false) where
+        none-at : (b : ℕ) → b < block_count B → enters_with (group_count G) B R H (decided_state G B R S) b ≡ false
+        none-at b k = (λ i. enters_with (sym heads i) B R H (sym is-decided i) b) ∙ quiet b (rw count k)
 
-        pub no-findings : D2 ≡ newFindings G B R S
+        pub no-findings : D2 ≡ new_findings G B R S
         no-findings =
             by-block ∙ findings-none G B E R S H t.sound t.errors t.size t.formed in-phases none-at
 
-        pub no-count : 0 ≡ findingCount G B R S
+        pub no-count : 0 ≡ finding_count G B R S
         no-count = count_none G B E R S H t.sound t.errors t.size t.formed in-phases none-at
 
 -- ---- the new state
 
 module _ {n : ℕ} (G B R S : List ℕ) (g : Sound G B n) where
   -- a block's bytes in it
-  pub new-cell : (b : ℕ) → b < blockCount B → cell (groupCount G) (newState G B R S) b ≡ newBlock G B R S b
-  unfolding cell newState
+  pub new-cell : (b : ℕ) → b < block_count B → cell (group_count G) (new_state G B R S) b ≡ new_block G B R S b
+  unfolding cell new_state
   new-cell b q =
-      slot-gather (stateHead (groupCount G)) stateSize (blockCount B) (newHead G B R S) (newBlock G B R S)
+      slot-gather (state_head (group_count G)) state_size (block_count B) (new_head G B R S) (new_block G B R S)
       (head-long G B R S g) (λ k p. block-length G B R S g k p) b q
 
-  pub new-long : length (newState G B R S) ≡ stateLength G B
-  unfolding newState stateLength
+  pub new-long : length (new_state G B R S) ≡ state_length G B
+  unfolding new_state state_length
   new-long =
-      length-append (newHead G B R S) (gather (blockCount B) (newBlock G B R S))
+      length-append (new_head G B R S) (gather (block_count B) (new_block G B R S))
       ∙ ap₂ (λ (x y : ℕ). x + y) (head-long G B R S g)
-      (length-gather stateSize (blockCount B) (newBlock G B R S) (λ k p. block-length G B R S g k p))
+      (length-gather state_size (block_count B) (new_block G B R S) (λ k p. block-length G B R S g k p))
 
   -- a group's byte in it
-  new-group : (k : ℕ) → k < groupCount G → groupByte (newState G B R S) k ≡ newGroup G B R S k
-  unfolding newState newHead
+  new-group : (k : ℕ) → k < group_count G → group_byte (new_state G B R S) k ≡ new_group G B R S k
+  unfolding new_state new_head
   new-group k q =
-      ap (byteAt (newState G B R S)) (zero-add k)
-      ∙ get_or-append (newHead G B R S) (gather (blockCount B) (newBlock G B R S)) 0 k
+      ap (byte_at (new_state G B R S)) (zero-add k)
+      ∙ get_or-append (new_head G B R S) (gather (block_count B) (new_block G B R S)) 0 k
       (omega (arith, head-long G B R S g))
-      ∙ row-at (groupCount G) (newGroup G B R S) k q
+      ∙ row_at_is (group_count G) (new_group G B R S) k q
 
   -- 01, "What the reviewer must be able to rely on": it is well formed
-  pub new-formed : stateFormed G B S ≡ true → stateFormed G B (newState G B R S) ≡ true
-  unfolding stateFormed cellFormed
+  pub new-formed : state_formed G B S ≡ true → state_formed G B (new_state G B R S) ≡ true
+  unfolding state_formed cell_formed
   new-formed h =
       let heads =
-      all-each (headFormed S) (groupCount G)
-      (both_left (all (headFormed S) (groupCount G)) (all (cellFormed (groupCount G) B S) (blockCount B)) h)
+      all_each (head_formed S) (group_count G)
+      (both_left (all (head_formed S) (group_count G)) (all (cell_formed (group_count G) B S) (block_count B)) h)
       in
       ap₂ (λ (x y : Bool). x && y)
-      (all_true (headFormed (newState G B R S)) (groupCount G)
-      (λ k q. ap groupFormed (new-group k q) ∙ group-formed G B R S k (heads k q)))
-      (all_true (cellFormed (groupCount G) B (newState G B R S)) (blockCount B)
-      (λ b q. ap (wellFormed (kind_of B b) (parametersOf B b)) (new-cell b q) ∙ block-formed G B R S g h b q))
+      (all_true (head_formed (new_state G B R S)) (group_count G)
+      (λ k q. ap group_formed (new-group k q) ∙ group_is_formed G B R S k (heads k q)))
+      (all_true (cell_formed (group_count G) B (new_state G B R S)) (block_count B)
+      (λ b q. ap (well_formed (kind_of B b) (parameters_of B b)) (new-cell b q) ∙ block-formed G B R S g h b q))
 
 -- ---- a whole call
 
 module _ {c : Counts} {G B W R S O D : List ℕ} (m : Admitted c G B W R S O D) where
-  pub in_place : (T : List ℕ) → length T ≡ stateLength G B → Standing B T c.groups
+  pub in_place : (T : List ℕ) → length T ≡ state_length G B → Standing B T c.groups
   in_place T e = standing m.sound m.groups m.blocks T e
 
   pub in-groups : Grouped B c.blocks
@@ -253,7 +253,7 @@ module _ {c : Counts} {G B W R S O D : List ℕ} (m : Admitted c G B W R S O D) 
   in_order = ordered m.sound m.groups m.blocks
 
   -- where the findings are cleared
-  pub ready : (K E D1 : List ℕ) → K ≡ orderList B → E ≡ errorList c.groups B S →
+  pub ready : (K E D1 : List ℕ) → K ≡ order_list B → E ≡ error_list c.groups B S →
       D1 ≡ replicate (length D) 0 → Ready c G B K E R S D1
   ready K E D1 k e d = record {
     inputs = m.inputs;
@@ -262,7 +262,7 @@ module _ {c : Counts} {G B W R S O D : List ℕ} (m : Admitted c G B W R S O D) 
       groups = m.groups;
       blocks = m.blocks;
       order = k;
-      errors = e ∙ ap (λ (h : ℕ). errorList h B S) m.groups;
+      errors = e ∙ ap (λ (h : ℕ). error_list h B S) m.groups;
       size = m.state;
       formed = m.formed;
       clean = d ∙ ap (λ (n : ℕ). replicate n 0) m.findings;
@@ -274,17 +274,17 @@ module _ {c : Counts} {G B W R S O D : List ℕ} (m : Admitted c G B W R S O D) 
   outputs-fit = record { count = m.rows; shown = m.shown }
 
   pub outputs-long : length O ≡ word_size * c.outputs
-  unfolding outputsLength
+  unfolding outputs_length
   outputs-long = m.outputs ∙ ap (λ (k : ℕ). word_size * k) (sym m.rows)
 
   -- the words that the new state shows are those of the cycle
-  pub shown-new : (T P : List ℕ) → T ≡ newState G B R S →
-      P ≡ gather c.outputs (λ o. bytes4 (outputShown c.groups B W T o)) → P ≡ newOutputs G B W R S
-  unfolding newOutputs outputWord outputShown
+  pub shown-new : (T P : List ℕ) → T ≡ new_state G B R S →
+      P ≡ gather c.outputs (λ o. bytes4 (output_shown c.groups B W T o)) → P ≡ new_outputs G B W R S
+  unfolding new_outputs output_word output_shown
   shown-new T P t p =
-      p ∙ (λ i. gather (m.rows i) (λ o. bytes4 (outputShown (m.groups i) B W (t i) o)))
-      ∙ gather-same (outputCount W) (λ o. bytes4 (outputShown (groupCount G) B W (newState G B R S) o))
-      (λ o. bytes4 (outputWord G B W R S o))
+      p ∙ (λ i. gather (m.rows i) (λ o. bytes4 (output_shown (m.groups i) B W (t i) o)))
+      ∙ gather_same (output_count W) (λ o. bytes4 (output_shown (group_count G) B W (new_state G B R S) o))
+      (λ o. bytes4 (output_word G B W R S o))
       (λ o q.
-      ap (λ (s : List ℕ). bytes4 (portShows B (outputBlock W o) (outputPort W o) s))
-      (new-cell G B R S m.sound (outputBlock W o) (m.shown.block o q)))
+      ap (λ (s : List ℕ). bytes4 (port_shows B (output_block W o) (output_port W o) s))
+      (new-cell G B R S m.sound (output_block W o) (m.shown.block o q)))

@@ -3,22 +3,22 @@
 use Rattle.wire.proofs.Usual.{◌≡◌, ap, ap₂, ◌∙◌, Bool, ◌&&◌, List, ℕ, ◌+◌, ◌*◌, ◌≤◌, arith, length, take}
 use Rattle.wire.proofs.Usual.{drop, eqb}
 use Rattle.wire.specs.Words.{le32}
-use Rattle.wire.proofs.Records.{word-within}
+use Rattle.wire.proofs.Records.{word_within}
 use Rattle.project.specs.declared.Counts.{Counts}
-use Rattle.project.specs.Project.{Project, row_of, device, groupCount, inputSize, inputCount, inputTypeIn, blockSize}
-use Rattle.project.specs.Project.{blockCount, kindIn, parametersIn, headSize, word_size, recordSize, sizeCounted}
-use Rattle.project.specs.Project.{outputCount, countsIn}
+use Rattle.project.specs.Project.{Project, row_of, device, group_count, input_size, input_count, input_type_in, block_size}
+use Rattle.project.specs.Project.{block_count, kind_in, parameters_in, head_size, word_size, record_size, size_counted}
+use Rattle.project.specs.Project.{output_count, counts_in}
 use Rattle.casefile.specs.Sound.{Sound, Shown}
 use Rattle.project.proofs.Counted.{is-device, is-groups, is-inputs, is-blocks, is-outputs, is-size}
-use Rattle.casefile.specs.Bodies.{projectOf}
+use Rattle.casefile.specs.Bodies.{project_of}
 use Rattle.casefile.proofs.Accepted.{Good, size_is}
-use Rattle.block.specs.State.{stateSize}
-use Rattle.block.specs.Formed.{wellFormed}
-use Rattle.block.specs.Shows.{wordOk}
-use Rattle.block.specs.Finding.{findingSize}
-use Rattle.evaluator.specs.State.{stateHead, stateLength, outputsLength, findingsLength, cellFormed}
-use Rattle.evaluator.specs.Groups.{inputWord}
-use Rattle.evaluator.specs.Answer.{Lent, inputFits, sizesOk}
+use Rattle.block.specs.State.{state_size}
+use Rattle.block.specs.Formed.{well_formed}
+use Rattle.block.specs.Shows.{word_ok}
+use Rattle.block.specs.Finding.{finding_size}
+use Rattle.evaluator.specs.State.{state_head, state_length, outputs_length, findings_length, cell_formed}
+use Rattle.evaluator.specs.Groups.{input_word}
+use Rattle.evaluator.specs.Answer.{Lent, input_fits, sizes_ok}
 use Rattle.evaluator.specs.Asks.{Few, Listed, Whole}
 use Rattle.evaluator.proofs.Reading.{record_is, cell-is}
 
@@ -26,45 +26,45 @@ use Rattle.evaluator.proofs.Reading.{record_is, cell-is}
 
 -- what its check says of it
 pub record Taken (P : Project) : Type 0 where
-  pub sound : Sound P.groups P.blocks (inputCount P.inputs)
+  pub sound : Sound P.groups P.blocks (input_count P.inputs)
   pub shown : Shown P.blocks P.outputs
-  pub inputs : length P.inputs ≡ inputSize * inputCount P.inputs
-  pub fewInputs : inputCount P.inputs ≤ 128
-  pub size : sizeCounted P.groups P.inputs ≡ recordSize P.groups P.inputs
+  pub inputs : length P.inputs ≡ input_size * input_count P.inputs
+  pub few_inputs : input_count P.inputs ≤ 128
+  pub size : size_counted P.groups P.inputs ≡ record_size P.groups P.inputs
 
-pub taken : (F : List ℕ) → Good F → Taken (projectOf F)
-unfolding projectOf
+pub taken : (F : List ℕ) → Good F → Taken (project_of F)
+unfolding project_of
 taken F g = record {
   sound = g.sound;
   shown = g.shown;
   inputs = g.inputs.long;
-  fewInputs = g.inputs.few;
+  few_inputs = g.inputs.few;
   size = size_is g;
 }
 
 -- and of its counts
-module _ {P : Project} {c : Counts} (e : c ≡ countsIn P) (t : Taken P) where
-  pub groups-counted : c.groups ≡ groupCount P.groups
+module _ {P : Project} {c : Counts} (e : c ≡ counts_in P) (t : Taken P) where
+  pub groups-counted : c.groups ≡ group_count P.groups
   groups-counted = is-groups P.groups P.inputs P.blocks P.outputs e
 
-  pub blocks-counted : c.blocks ≡ blockCount P.blocks
+  pub blocks-counted : c.blocks ≡ block_count P.blocks
   blocks-counted = is-blocks P.groups P.inputs P.blocks P.outputs e
 
-  pub outputs-counted : c.outputs ≡ outputCount P.outputs
+  pub outputs-counted : c.outputs ≡ output_count P.outputs
   outputs-counted = is-outputs P.groups P.inputs P.blocks P.outputs e
 
   pub few : Few c
   few = (
-    omega (arith, groups-counted, t.sound.fewGroups),
-    (omega (arith, blocks-counted, t.sound.fewBlocks), omega (arith, outputs-counted, t.shown.few)),
+    omega (arith, groups-counted, t.sound.few_groups),
+    (omega (arith, blocks-counted, t.sound.few_blocks), omega (arith, outputs-counted, t.shown.few)),
   )
 
   pub whole : Whole P.blocks c.groups c.blocks
   whole = record {
     count = blocks-counted;
-    few = t.sound.fewBlocks;
+    few = t.sound.few_blocks;
     long = t.sound.long;
-    fewGroups = few.0;
+    few_groups = few.0;
   }
 
   pub listed : Listed c P.groups P.inputs
@@ -73,30 +73,30 @@ module _ {P : Project} {c : Counts} (e : c ≡ countsIn P) (t : Taken P) where
     groups = groups-counted;
     inputs = is-inputs P.groups P.inputs P.blocks P.outputs e;
     size = is-size P.groups P.inputs P.blocks P.outputs e ∙ t.size;
-    fewGroups = t.sound.fewGroups;
-    fewInputs = t.fewInputs;
+    few_groups = t.sound.few_groups;
+    few_inputs = t.few_inputs;
     long = t.inputs;
   }
 
   -- the sizes, by the counts
-  pub state-counted : stateHead c.groups + stateSize * c.blocks ≡ stateLength P.groups P.blocks
-  unfolding stateLength
-  state-counted = ap₂ (λ (g b : ℕ). stateHead g + stateSize * b) groups-counted blocks-counted
+  pub state-counted : state_head c.groups + state_size * c.blocks ≡ state_length P.groups P.blocks
+  unfolding state_length
+  state-counted = ap₂ (λ (g b : ℕ). state_head g + state_size * b) groups-counted blocks-counted
 
-  pub rows-counted : word_size * c.outputs ≡ outputsLength P.outputs
-  unfolding outputsLength
+  pub rows-counted : word_size * c.outputs ≡ outputs_length P.outputs
+  unfolding outputs_length
   rows-counted = ap (λ (n : ℕ). word_size * n) outputs-counted
 
-  pub notes-counted : findingSize * c.blocks ≡ findingsLength P.blocks
-  unfolding findingsLength
-  notes-counted = ap (λ (n : ℕ). findingSize * n) blocks-counted
+  pub notes-counted : finding_size * c.blocks ≡ findings_length P.blocks
+  unfolding findings_length
+  notes-counted = ap (λ (n : ℕ). finding_size * n) blocks-counted
 
   pub sizes-fit : (L : Lent) →
-      (eqb (length L.state) (stateHead c.groups + stateSize * c.blocks)
+      (eqb (length L.state) (state_head c.groups + state_size * c.blocks)
       && eqb (length L.outputs) (word_size * c.outputs))
-      && eqb (length L.findings) (findingSize * c.blocks)
-      ≡ sizesOk P L
-  unfolding sizesOk
+      && eqb (length L.findings) (finding_size * c.blocks)
+      ≡ sizes_ok P L
+  unfolding sizes_ok
   sizes-fit L = λ i.
       (eqb (length L.state) (state-counted i) && eqb (length L.outputs) (rows-counted i))
       && eqb (length L.findings) (notes-counted i)
@@ -104,22 +104,22 @@ module _ {P : Project} {c : Counts} (e : c ≡ countsIn P) (t : Taken P) where
 -- ---- 11
 
 -- block b's test, from its record Q, its kind k, parameters P and bytes T
-pub block-is : (B S : List ℕ) (h b : ℕ) (Q P T : List ℕ) (k : ℕ) (x : Bool) →
-    Q ≡ take blockSize (drop (blockSize * b) B) → T ≡ take stateSize (drop (stateHead h + stateSize * b) S) →
-    k ≡ kindIn Q → P ≡ parametersIn Q → x ≡ wellFormed k P T → x ≡ cellFormed h B S b
-unfolding cellFormed
-block-is B S h b Q P T k x q t u v w =
+pub block_is : (B S : List ℕ) (h b : ℕ) (Q P T : List ℕ) (k : ℕ) (x : Bool) →
+    Q ≡ take block_size (drop (block_size * b) B) → T ≡ take state_size (drop (state_head h + state_size * b) S) →
+    k ≡ kind_in Q → P ≡ parameters_in Q → x ≡ well_formed k P T → x ≡ cell_formed h B S b
+unfolding cell_formed
+block_is B S h b Q P T k x q t u v w =
     let here = q ∙ record_is B b in
-    w ∙ (λ i. wellFormed ((u ∙ ap kindIn here) i) ((v ∙ ap parametersIn here) i) ((t ∙ cell-is h S b) i))
+    w ∙ (λ i. well_formed ((u ∙ ap kind_in here) i) ((v ∙ ap parameters_in here) i) ((t ∙ cell-is h S b) i))
 
 -- ---- 12
 
 -- input i's test, from its record Q, its type t, its word's bytes W and its word w
-pub input-is : (I R Q W : List ℕ) (h i t w : ℕ) (x : Bool) → Q ≡ take inputSize (drop (inputSize * i) I) →
-    t ≡ inputTypeIn Q → W ≡ take word_size (drop (headSize + h + word_size * i) R) → w ≡ le32 W 0 →
-    x ≡ wordOk t w → x ≡ inputFits h I R i
-unfolding inputFits inputWord row_of
-input-is I R Q W h i t w x q s u v r =
+pub input_is : (I R Q W : List ℕ) (h i t w : ℕ) (x : Bool) → Q ≡ take input_size (drop (input_size * i) I) →
+    t ≡ input_type_in Q → W ≡ take word_size (drop (head_size + h + word_size * i) R) → w ≡ le32 W 0 →
+    x ≡ word_ok t w → x ≡ input_fits h I R i
+unfolding input_fits input_word row_of
+input_is I R Q W h i t w x q s u v r =
     r
-    ∙ ap₂ wordOk (s ∙ ap inputTypeIn q)
-    (v ∙ ap (λ (y : List ℕ). le32 y 0) u ∙ word-within (headSize + h + word_size * i) R)
+    ∙ ap₂ word_ok (s ∙ ap input_type_in q)
+    (v ∙ ap (λ (y : List ℕ). le32 y 0) u ∙ word_within (head_size + h + word_size * i) R)

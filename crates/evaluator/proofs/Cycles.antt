@@ -6,222 +6,222 @@ use Rattle.wire.proofs.Usual.{◌*◌, ◌<◌, zero-add, arith, ltb, length, ta
 use native.Mathlib.Nat.{add_comm, mul-zero, mul-suc}
 use lib.ListN.{replicate-append-replicate}
 use lib.Seq.{take_at, drop_at}
-use Rattle.wire.specs.Words.{byteAt}
+use Rattle.wire.specs.Words.{byte_at}
 use Rattle.wire.specs.Records.{gather}
 use Rattle.wire.specs.Places.{all}
-use Rattle.wire.proofs.Places.{all-each, both_right}
-use Rattle.wire.proofs.Records.{slot-past, gather-at, gather-same, length-gather}
-use Rattle.project.specs.Project.{device, groupCount, blockCount, kind_of, group_of, order_of, parametersOf, row_of}
+use Rattle.wire.proofs.Places.{all_each, both_right}
+use Rattle.wire.proofs.Records.{slot_past, gather_at, gather_same, length-gather}
+use Rattle.project.specs.Project.{device, group_count, block_count, kind_of, group_of, order_of, parameters_of, row_of}
 use Rattle.casefile.specs.Sound.{Sound}
-use Rattle.block.specs.State.{stateSize, entersFrom, isError}
-use Rattle.block.specs.Formed.{wellFormed}
-use Rattle.block.specs.Finding.{findingSize, isFinding}
-use Rattle.block.proofs.Enters.{entered-error}
-use Rattle.block.proofs.Kept.{step_keeps, step-found}
+use Rattle.block.specs.State.{state_size, enters_from, is_error}
+use Rattle.block.specs.Formed.{well_formed}
+use Rattle.block.specs.Finding.{finding_size, is_finding}
+use Rattle.block.proofs.Enters.{entered_error}
+use Rattle.block.proofs.Kept.{step_keeps, step_found}
 use Rattle.evaluator.specs.Net.{words, seen}
-use Rattle.evaluator.specs.State.{stateHead, cell, stateLength, headFormed, cellFormed, stateFormed}
-use Rattle.evaluator.specs.Groups.{groupFrom, phaseOf, newGroup, phase}
+use Rattle.evaluator.specs.State.{state_head, cell, state_length, head_formed, cell_formed, state_formed}
+use Rattle.evaluator.specs.Groups.{group_from, phase_of, new_group, phase}
 use Rattle.wire.specs.Packed.{hits, packed}
-use Rattle.evaluator.specs.Cycle.{wires, net, turnedFrom, ran, newBlock, wordsRead, newHead, newState, enters}
-use Rattle.evaluator.specs.Cycle.{findingFor, finding, findingCount, newFindings}
-use Rattle.evaluator.specs.Asks.{errorList, saysError, groupWith, Decided, ranWith, entersWith, foundWith}
-use Rattle.evaluator.specs.Asks.{slotWith, noteIn, isNoted, Noted}
+use Rattle.evaluator.specs.Cycle.{wires, net, turned_from, ran, new_block, words_read, new_head, new_state, enters}
+use Rattle.evaluator.specs.Cycle.{finding_for, finding, finding_count, new_findings}
+use Rattle.evaluator.specs.Asks.{error_list, says_error, group_with, Decided, ran_with, enters_with, found_with}
+use Rattle.evaluator.specs.Asks.{slot_with, note_in, is_noted, Noted}
 use Rattle.evaluator.proofs.Agree.{agree, fixed}
 use Rattle.evaluator.proofs.Stage.{words-local}
-use Rattle.evaluator.proofs.Deciding.{row-length, error-at}
-use Rattle.wire.proofs.Packing.{packed-same, hits-same, packed_none, hits-none}
+use Rattle.evaluator.proofs.Deciding.{row-length, error_at}
+use Rattle.wire.proofs.Packing.{packed_same, hits_same, packed_none, hits_none}
 use Rattle.evaluator.proofs.Running.{slot-length, turned-length, empty}
 
 -- records of zeros are zeros
-zeros-gathered : (w n : ℕ) → gather n (λ b. replicate w 0) ≡ replicate (w * n) 0
+zeros_gathered : (w n : ℕ) → gather n (λ b. replicate w 0) ≡ replicate (w * n) 0
 unfolding gather
-zeros-gathered w zero = ap (λ (k : ℕ). replicate k 0) (sym (mul-zero w))
-zeros-gathered w (suc n) =
-    ap (λ (t : List ℕ). replicate w 0 ++ t) (zeros-gathered w n) ∙ replicate-append-replicate w (w * n) 0
+zeros_gathered w zero = ap (λ (k : ℕ). replicate k 0) (sym (mul-zero w))
+zeros_gathered w (suc n) =
+    ap (λ (t : List ℕ). replicate w 0 ++ t) (zeros_gathered w n) ∙ replicate-append-replicate w (w * n) 0
     ∙ ap (λ (k : ℕ). replicate k 0) (add_comm w (w * n) ∙ sym (mul-suc w n))
 
 -- ---- the state after a cycle
 
 module _ {n : ℕ} (G B R S : List ℕ) (g : Sound G B n) where
   -- each block's step
-  pub new-stepped : (b : ℕ) → b < blockCount B →
-      newBlock G B R S b ≡ turnedFrom B R (phase G B R S (group_of B b)) b (cell (groupCount G) S b)
-      (wordsRead G B R S b)
-  unfolding newBlock ran net wordsRead
+  pub new-stepped : (b : ℕ) → b < block_count B →
+      new_block G B R S b ≡ turned_from B R (phase G B R S (group_of B b)) b (cell (group_count G) S b)
+      (words_read G B R S b)
+  unfolding new_block ran net words_read
   new-stepped b l =
-      fixed (net (groupCount G) B R (phase G B R S)) (order_of B) (cell (groupCount G) S) (blockCount B) b
-      (g.orderBelow b l)
+      fixed (net (group_count G) B R (phase G B R S)) (order_of B) (cell (group_count G) S) (block_count B) b
+      (g.order_below b l)
 
   -- a block's bytes after a cycle are as many as before
-  pub block-length : (b : ℕ) → b < blockCount B → length (newBlock G B R S b) ≡ stateSize
+  pub block-length : (b : ℕ) → b < block_count B → length (new_block G B R S b) ≡ state_size
   block-length b l = ap length (new-stepped b l) ∙ turned-length B R (phase G B R S (group_of B b)) b _ _
 
   -- a block that was well formed is so after the cycle
-  was-formed : stateFormed G B S ≡ true → (b : ℕ) → b < blockCount B →
-      wellFormed (kind_of B b) (parametersOf B b) (cell (groupCount G) S b) ≡ true
-  unfolding stateFormed cellFormed
+  was-formed : state_formed G B S ≡ true → (b : ℕ) → b < block_count B →
+      well_formed (kind_of B b) (parameters_of B b) (cell (group_count G) S b) ≡ true
+  unfolding state_formed cell_formed
   was-formed formed =
-      all-each (cellFormed (groupCount G) B S) (blockCount B)
-      (both_right (all (headFormed S) (groupCount G)) (all (cellFormed (groupCount G) B S) (blockCount B)) formed)
+      all_each (cell_formed (group_count G) B S) (block_count B)
+      (both_right (all (head_formed S) (group_count G)) (all (cell_formed (group_count G) B S) (block_count B)) formed)
 
-  pub block-formed : stateFormed G B S ≡ true → (b : ℕ) → b < blockCount B →
-      wellFormed (kind_of B b) (parametersOf B b) (newBlock G B R S b) ≡ true
-  unfolding turnedFrom
+  pub block-formed : state_formed G B S ≡ true → (b : ℕ) → b < block_count B →
+      well_formed (kind_of B b) (parameters_of B b) (new_block G B R S b) ≡ true
+  unfolding turned_from
   block-formed formed b l =
-      ap (wellFormed (kind_of B b) (parametersOf B b)) (new-stepped b l)
-      ∙ step_keeps (kind_of B b) (parametersOf B b) _ _ _ _ _ _ (was-formed formed b l)
+      ap (well_formed (kind_of B b) (parameters_of B b)) (new-stepped b l)
+      ∙ step_keeps (kind_of B b) (parameters_of B b) _ _ _ _ _ _ (was-formed formed b l)
 
   -- the state's head
-  pub head-long : length (newHead G B R S) ≡ stateHead (groupCount G)
-  unfolding newHead
-  head-long = row-length (groupCount G) (newGroup G B R S) ∙ sym (zero-add (groupCount G))
+  pub head-long : length (new_head G B R S) ≡ state_head (group_count G)
+  unfolding new_head
+  head-long = row-length (group_count G) (new_group G B R S) ∙ sym (zero-add (group_count G))
 
 -- the state whose group bytes are new
-abbrev pub decidedState : List ℕ → List ℕ → List ℕ → List ℕ → List ℕ
-decidedState G B R S = newHead G B R S ++ drop (stateHead (groupCount G)) S
+abbrev pub decided_state : List ℕ → List ℕ → List ℕ → List ℕ → List ℕ
+decided_state G B R S = new_head G B R S ++ drop (state_head (group_count G)) S
 
-module _ {n : ℕ} (G B E R S H : List ℕ) (g : Sound G B n) (marks : E ≡ errorList (groupCount G) B S)
-    (long : length S ≡ stateLength G B) (formed : stateFormed G B S ≡ true)
-    (d : Decided E G R S (groupCount G) H) where
+module _ {n : ℕ} (G B E R S H : List ℕ) (g : Sound G B n) (marks : E ≡ error_list (group_count G) B S)
+    (long : length S ≡ state_length G B) (formed : state_formed G B S ≡ true)
+    (d : Decided E G R S (group_count G) H) where
   abbrev h : ℕ
-  h = groupCount G
+  h = group_count G
 
   abbrev S' : List ℕ
-  S' = decidedState G B R S
+  S' = decided_state G B R S
 
   -- each group comes to the byte and the phase that the definitions say
-  pub group-is : (k : ℕ) → k < h → groupWith E G R S k ≡ newGroup G B R S k
-  unfolding newGroup
-  group-is k q =
-      ap (λ (t : Bool). groupFrom (device G) t R S k)
-      (ap (λ (t : List ℕ). saysError t k) marks ∙ error-at h B S k (omega (arith, g.fewGroups)))
+  pub group_is : (k : ℕ) → k < h → group_with E G R S k ≡ new_group G B R S k
+  unfolding new_group
+  group_is k q =
+      ap (λ (t : Bool). group_from (device G) t R S k)
+      (ap (λ (t : List ℕ). says_error t k) marks ∙ error_at h B S k (omega (arith, g.few_groups)))
 
-  phase-is : (k : ℕ) → k < h → byteAt H k ≡ phase G B R S k
+  phase-is : (k : ℕ) → k < h → byte_at H k ≡ phase G B R S k
   unfolding phase
-  phase-is k q = d.each k q ∙ ap (λ (v : ℕ). phaseOf G R v k) (group-is k q)
+  phase-is k q = d.each k q ∙ ap (λ (v : ℕ). phase_of G R v k) (group_is k q)
 
   -- the blocks run from their old bytes
   cells_same : (b : ℕ) → cell h S' b ≡ cell h S b
   unfolding cell
   cells_same b =
-      slot-past (stateHead h) stateSize b S'
-      ∙ ap (λ (t : List ℕ). take stateSize (drop (stateSize * b) t))
-      (drop_at (newHead G B R S) (drop (stateHead h) S) (stateHead h) (head-long G B R S g))
-      ∙ sym (slot-past (stateHead h) stateSize b S)
+      slot_past (state_head h) state_size b S'
+      ∙ ap (λ (t : List ℕ). take state_size (drop (state_size * b) t))
+      (drop_at (new_head G B R S) (drop (state_head h) S) (state_head h) (head-long G B R S g))
+      ∙ sym (slot_past (state_head h) state_size b S)
 
   -- each block comes to the state that the definitions say
-  pub ran-new : (b : ℕ) → b < blockCount B → ranWith h B R H S' b ≡ newBlock G B R S b
-  unfolding ranWith ran newBlock net wires
+  pub ran-new : (b : ℕ) → b < block_count B → ran_with h B R H S' b ≡ new_block G B R S b
+  unfolding ran_with ran new_block net wires
   ran-new b l =
-      agree (λ b. b < blockCount B) (net h B R (byteAt H)) (net h B R (phase G B R S)) (order_of B) (order_of B)
+      agree (λ b. b < block_count B) (net h B R (byte_at H)) (net h B R (phase G B R S)) (order_of B) (order_of B)
       (cell h S')
       (cell h S) (record {
         olds = λ b _. cells_same b;
         links = λ b p _. refl;
         givens = λ b p i _ _. refl;
         shown = λ a q s _. refl;
-        steps = λ b s f l. ap (λ (ph : ℕ). turnedFrom B R ph b s f) (phase-is (group_of B b) (g.group b l));
+        steps = λ b s f l. ap (λ (ph : ℕ). turned_from B R ph b s f) (phase-is (group_of B b) (g.group b l));
         closed = g.output;
         before = λ b p a q _ _. refl;
-      }) (blockCount B) (blockCount B) b l (g.orderBelow b l) (g.orderBelow b l)
+      }) (block_count B) (block_count B) b l (g.order_below b l) (g.order_below b l)
 
   -- and reads what they say
-  words-new : (b : ℕ) → b < blockCount B →
-      words (wires h B R) (seen (order_of B) (cell h S') (ranWith h B R H S') b) b ≡ wordsRead G B R S b
-  unfolding wordsRead wires
+  words-new : (b : ℕ) → b < block_count B →
+      words (wires h B R) (seen (order_of B) (cell h S') (ran_with h B R H S') b) b ≡ words_read G B R S b
+  unfolding words_read wires
   words-new b l =
-      words-local (wires h B R) (seen (order_of B) (cell h S') (ranWith h B R H S') b)
-      (seen (order_of B) (cell h S) (newBlock G B R S) b) b
+      words-local (wires h B R) (seen (order_of B) (cell h S') (ran_with h B R H S') b)
+      (seen (order_of B) (cell h S) (new_block G B R S) b) b
       (λ p a q e i. cond (ltb (order_of B a) (order_of B b)) (ran-new a (g.output b p a q l e) i) (cells_same a i))
 
-  pub enters-new : (b : ℕ) → b < blockCount B → entersWith h B R H S' b ≡ enters G B R S b
-  unfolding entersWith enters
-  enters-new b l = ap₂ entersFrom (cells_same b) (ran-new b l)
+  pub enters-new : (b : ℕ) → b < block_count B → enters_with h B R H S' b ≡ enters G B R S b
+  unfolding enters_with enters
+  enters-new b l = ap₂ enters_from (cells_same b) (ran-new b l)
 
-  found-new : (b : ℕ) → b < blockCount B → foundWith h B R H S' b ≡ finding G B R S b
-  unfolding foundWith finding
-  found-new b l = ap₂ (findingFor B b) (words-new b l) (ran-new b l)
+  found-new : (b : ℕ) → b < block_count B → found_with h B R H S' b ≡ finding G B R S b
+  unfolding found_with finding
+  found-new b l = ap₂ (finding_for B b) (words-new b l) (ran-new b l)
 
   -- the whole state
-  pub state-new : take (stateHead h) S' ++ gather (blockCount B) (ranWith h B R H S') ≡ newState G B R S
-  unfolding newState
+  pub state-new : take (state_head h) S' ++ gather (block_count B) (ran_with h B R H S') ≡ new_state G B R S
+  unfolding new_state
   state-new =
       ap₂ (λ (x y : List ℕ). x ++ y)
-      (take_at (newHead G B R S) (drop (stateHead h) S) (stateHead h) (head-long G B R S g))
-      (gather-same (blockCount B) (ranWith h B R H S') (newBlock G B R S) ran-new)
+      (take_at (new_head G B R S) (drop (state_head h) S) (state_head h) (head-long G B R S g))
+      (gather_same (block_count B) (ran_with h B R H S') (new_block G B R S) ran-new)
 
   -- ---- the findings
 
   -- the records of all blocks
   abbrev notes : List ℕ
-  notes = gather (blockCount B) (slotWith h B R H S')
+  notes = gather (block_count B) (slot_with h B R H S')
 
   -- what the finding of a block that enters 4 says is a finding
-  finding-told : (b : ℕ) → b < blockCount B → enters G B R S b ≡ true → isFinding (finding G B R S b) ≡ true
-  unfolding finding findingFor enters turnedFrom
+  finding-told : (b : ℕ) → b < block_count B → enters G B R S b ≡ true → is_finding (finding G B R S b) ≡ true
+  unfolding finding finding_for enters turned_from
   finding-told b l e =
       let step = new-stepped G B R S g b l in
-      let entered = entered-error (cell h S b) (newBlock G B R S b) e in
-      ap (λ (s : List ℕ). isFinding (findingFor B b (wordsRead G B R S b) s)) step
-      ∙ step-found b (group_of B b) (kind_of B b) (parametersOf B b) _ _ _ _ _ _ _ (cell h S b)
-      (was-formed G B R S g formed b l) (sym (ap isError step) ∙ entered)
+      let entered = entered_error (cell h S b) (new_block G B R S b) e in
+      ap (λ (s : List ℕ). is_finding (finding_for B b (words_read G B R S b) s)) step
+      ∙ step_found b (group_of B b) (kind_of B b) (parameters_of B b) _ _ _ _ _ _ _ (cell h S b)
+      (was-formed G B R S g formed b l) (sym (ap is_error step) ∙ entered)
 
-  note-is : (b : ℕ) → b < blockCount B → noteIn notes b ≡ slotWith h B R H S' b
+  note-is : (b : ℕ) → b < block_count B → note_in notes b ≡ slot_with h B R H S' b
   unfolding row_of
-  note-is b l = gather-at findingSize (blockCount B) (slotWith h B R H S') (λ k _. slot-length h B R H S' k) b l
+  note-is b l = gather_at finding_size (block_count B) (slot_with h B R H S') (λ k _. slot-length h B R H S' k) b l
 
-  slot_cases : (b : ℕ) → b < blockCount B → (t : Bool) → enters G B R S b ≡ t →
-      isFinding (slotWith h B R H S' b) ≡ t
-  unfolding slotWith
-  slot_cases b l true e = rw (enters-new b l ∙ e) (ap isFinding (found-new b l) ∙ finding-told b l e)
+  slot_cases : (b : ℕ) → b < block_count B → (t : Bool) → enters G B R S b ≡ t →
+      is_finding (slot_with h B R H S' b) ≡ t
+  unfolding slot_with
+  slot_cases b l true e = rw (enters-new b l ∙ e) (ap is_finding (found-new b l) ∙ finding-told b l e)
   slot_cases b l false e = rw (enters-new b l ∙ e)
 
-  noted-enters : (b : ℕ) → b < blockCount B → isNoted notes b ≡ enters G B R S b
-  unfolding isNoted
-  noted-enters b l = ap isFinding (note-is b l) ∙ slot_cases b l (enters G B R S b) refl
+  noted-enters : (b : ℕ) → b < block_count B → is_noted notes b ≡ enters G B R S b
+  unfolding is_noted
+  noted-enters b l = ap is_finding (note-is b l) ∙ slot_cases b l (enters G B R S b) refl
 
-  slot-found : (b : ℕ) → b < blockCount B → enters G B R S b ≡ true →
-      slotWith h B R H S' b ≡ finding G B R S b
-  unfolding slotWith
+  slot-found : (b : ℕ) → b < block_count B → enters G B R S b ≡ true →
+      slot_with h B R H S' b ≡ finding G B R S b
+  unfolding slot_with
   slot-found b l e = rw (enters-new b l ∙ e) (found-new b l)
 
-  slot-empty : (b : ℕ) → b < blockCount B → enters G B R S b ≡ false →
-      slotWith h B R H S' b ≡ replicate findingSize 0
-  unfolding slotWith
+  slot-empty : (b : ℕ) → b < block_count B → enters G B R S b ≡ false →
+      slot_with h B R H S' b ≡ replicate finding_size 0
+  unfolding slot_with
   slot-empty b l e = rw (enters-new b l ∙ e)
 
   -- the records of all blocks can be packed
-  pub all_noted : Noted notes (blockCount B)
+  pub all_noted : Noted notes (block_count B)
   all_noted = record {
-    long = length-gather findingSize (blockCount B) (slotWith h B R H S') (λ k _. slot-length h B R H S' k);
-    few = g.fewBlocks;
+    long = length-gather finding_size (block_count B) (slot_with h B R H S') (λ k _. slot-length h B R H S' k);
+    few = g.few_blocks;
     empty = λ b l e. note-is b l ∙ slot-empty b l (sym (noted-enters b l) ∙ e);
   }
 
   -- and then are the findings
-  pub findings-new : packed (findingSize * blockCount B) (blockCount B) (isNoted notes) (noteIn notes)
-      ≡ newFindings G B R S
-  unfolding newFindings
+  pub findings-new : packed (finding_size * block_count B) (block_count B) (is_noted notes) (note_in notes)
+      ≡ new_findings G B R S
+  unfolding new_findings
   findings-new =
-      packed-same (findingSize * blockCount B) (blockCount B) _ _ _ _ noted-enters
+      packed_same (finding_size * block_count B) (block_count B) _ _ _ _ noted-enters
       (λ b l e. note-is b l ∙ slot-found b l e)
 
-  pub count-new : hits (blockCount B) (isNoted notes) ≡ findingCount G B R S
-  unfolding findingCount
-  count-new = hits-same (blockCount B) _ _ noted-enters
+  pub count-new : hits (block_count B) (is_noted notes) ≡ finding_count G B R S
+  unfolding finding_count
+  count-new = hits_same (block_count B) _ _ noted-enters
 
   -- where no block enters 4 there are none
-  module _ (none : (b : ℕ) → b < blockCount B → entersWith h B R H S' b ≡ false) where
-    quiet : (b : ℕ) → b < blockCount B → enters G B R S b ≡ false
+  module _ (none : (b : ℕ) → b < block_count B → enters_with h B R H S' b ≡ false) where
+    quiet : (b : ℕ) → b < block_count B → enters G B R S b ≡ false
     quiet b l = sym (enters-new b l) ∙ none b l
 
-    pub findings-none : notes ≡ newFindings G B R S
-    unfolding newFindings
+    pub findings-none : notes ≡ new_findings G B R S
+    unfolding new_findings
     findings-none =
-        gather-same (blockCount B) (slotWith h B R H S') empty (λ b l. slot-empty b l (quiet b l))
-        ∙ zeros-gathered findingSize (blockCount B)
-        ∙ sym (packed_none (findingSize * blockCount B) (blockCount B) (enters G B R S) (finding G B R S) quiet)
+        gather_same (block_count B) (slot_with h B R H S') empty (λ b l. slot-empty b l (quiet b l))
+        ∙ zeros_gathered finding_size (block_count B)
+        ∙ sym (packed_none (finding_size * block_count B) (block_count B) (enters G B R S) (finding G B R S) quiet)
 
-    pub count_none : 0 ≡ findingCount G B R S
-    unfolding findingCount
-    count_none = sym (hits-none (blockCount B) (enters G B R S) quiet)
+    pub count_none : 0 ≡ finding_count G B R S
+    unfolding finding_count
+    count_none = sym (hits_none (block_count B) (enters G B R S) quiet)

@@ -7,27 +7,27 @@ use Rattle.wire.specs.Records.{gather}
 use Rattle.wire.specs.Tables.{row, first}
 use Rattle.wire.proofs.Places.{all_true}
 use Rattle.wire.proofs.Records.{length-gather, slot-gather}
-use Rattle.wire.proofs.Tables.{first-zero, first-kept, first-broken}
-use Rattle.project.specs.Project.{Project, groupCount, blockCount, kind_of, parametersOf}
+use Rattle.wire.proofs.Tables.{first-zero, first-kept, first_broken}
+use Rattle.project.specs.Project.{Project, group_count, block_count, kind_of, parameters_of}
 use Rattle.casefile.specs.Sound.{Sound}
-use Rattle.casefile.specs.Bodies.{projectOf}
-use Rattle.casefile.specs.Refusal.{fileTable}
-use Rattle.casefile.proofs.Refusals.{file-numbered}
-use Rattle.block.specs.State.{stateSize, freshBytes, encode}
-use Rattle.block.specs.Formed.{wellFormed}
-use Rattle.block.proofs.Kept.{fresh-formed}
-use Rattle.evaluator.specs.State.{groupsAt, stateHead, groupByte, cell, stateLength, groupFormed, headFormed}
-use Rattle.evaluator.specs.State.{cellFormed, stateFormed}
-use Rattle.evaluator.specs.Fresh.{freshFor, freshTable, freshNumber, freshLeft}
+use Rattle.casefile.specs.Bodies.{project_of}
+use Rattle.casefile.specs.Refusal.{file_table}
+use Rattle.casefile.proofs.Refusals.{file_numbered}
+use Rattle.block.specs.State.{state_size, fresh_bytes, encode}
+use Rattle.block.specs.Formed.{well_formed}
+use Rattle.block.proofs.Kept.{fresh_formed}
+use Rattle.evaluator.specs.State.{groups_at, state_head, group_byte, cell, state_length, group_formed, head_formed}
+use Rattle.evaluator.specs.State.{cell_formed, state_formed}
+use Rattle.evaluator.specs.Fresh.{fresh_for, fresh_table, fresh_number, fresh_left}
 
 -- a block's fresh bytes
-pub fresh-long : length freshBytes ≡ stateSize
-unfolding freshBytes encode
-fresh-long = refl
+pub fresh_long : length fresh_bytes ≡ state_size
+unfolding fresh_bytes encode
+fresh_long = refl
 
 module _ (P : Project) where
   abbrev h : ℕ
-  h = stateHead (groupCount P.groups)
+  h = state_head (group_count P.groups)
 
   abbrev zeros : List ℕ
   zeros = replicate h 0
@@ -35,71 +35,71 @@ module _ (P : Project) where
   head-long : length zeros ≡ h
   head-long = length-replicate {A = ℕ} h 0
 
-  pub fresh-length : length (freshFor P) ≡ stateLength P.groups P.blocks
-  unfolding freshFor stateLength
+  pub fresh-length : length (fresh_for P) ≡ state_length P.groups P.blocks
+  unfolding fresh_for state_length
   fresh-length =
-      length-append zeros (gather (blockCount P.blocks) (λ b. freshBytes))
+      length-append zeros (gather (block_count P.blocks) (λ b. fresh_bytes))
       ∙ ap₂ (λ (x y : ℕ). x + y) head-long
-      (length-gather stateSize (blockCount P.blocks) (λ b. freshBytes) (λ b _. fresh-long))
+      (length-gather state_size (block_count P.blocks) (λ b. fresh_bytes) (λ b _. fresh_long))
 
-  fresh-group : (g : ℕ) → g < groupCount P.groups → groupByte (freshFor P) g ≡ 0
-  unfolding freshFor
+  fresh-group : (g : ℕ) → g < group_count P.groups → group_byte (fresh_for P) g ≡ 0
+  unfolding fresh_for
   fresh-group g l =
-      get_or-append zeros (gather (blockCount P.blocks) (λ b. freshBytes)) 0 (groupsAt + g)
+      get_or-append zeros (gather (block_count P.blocks) (λ b. fresh_bytes)) 0 (groups_at + g)
       (omega (arith, head-long))
-      ∙ get_or-replicate h (groupsAt + g) 0 0 (omega arith)
+      ∙ get_or-replicate h (groups_at + g) 0 0 (omega arith)
 
-  fresh-cell : (b : ℕ) → b < blockCount P.blocks → cell (groupCount P.groups) (freshFor P) b ≡ freshBytes
-  unfolding freshFor cell
+  fresh-cell : (b : ℕ) → b < block_count P.blocks → cell (group_count P.groups) (fresh_for P) b ≡ fresh_bytes
+  unfolding fresh_for cell
   fresh-cell b l =
-      slot-gather h stateSize (blockCount P.blocks) zeros (λ b. freshBytes) head-long (λ k _. fresh-long) b l
+      slot-gather h state_size (block_count P.blocks) zeros (λ b. fresh_bytes) head-long (λ k _. fresh_long) b l
 
   -- the theorem
   pub fresh-state-formed : {n : ℕ} → Sound P.groups P.blocks n →
-      stateFormed P.groups P.blocks (freshFor P) ≡ true
-  unfolding stateFormed cellFormed
+      state_formed P.groups P.blocks (fresh_for P) ≡ true
+  unfolding state_formed cell_formed
   fresh-state-formed s =
-      let n = groupCount P.groups in
+      let n = group_count P.groups in
       let B = P.blocks in
       ap₂ (λ (x y : Bool). x && y)
-      (all_true (headFormed (freshFor P)) n (λ g l. ap groupFormed (fresh-group g l)))
-      (all_true (cellFormed n B (freshFor P)) (blockCount B)
+      (all_true (head_formed (fresh_for P)) n (λ g l. ap group_formed (fresh-group g l)))
+      (all_true (cell_formed n B (fresh_for P)) (block_count B)
       (λ b l.
-      ap (wellFormed (kind_of B b) (parametersOf B b)) (fresh-cell b l)
-      ∙ fresh-formed _ (kind_of B b) (parametersOf B b) (s.parameters b l)))
+      ap (well_formed (kind_of B b) (parameters_of B b)) (fresh-cell b l)
+      ∙ fresh_formed _ (kind_of B b) (parameters_of B b) (s.parameters b l)))
 
 -- ---- what `fresh` answers and leaves
 
 module _ (F S : List ℕ) where
-  fresh-not : (n : ℕ) → n ≢ 0 → n ≡ freshNumber F S → (n ≡ freshNumber F S) × (S ≡ freshLeft F S)
-  unfolding freshLeft
+  fresh-not : (n : ℕ) → n ≢ 0 → n ≡ fresh_number F S → (n ≡ fresh_number F S) × (S ≡ fresh_left F S)
+  unfolding fresh_left
   fresh-not n h e = (e, rw (← e, ne_eqb n 0 h))
 
   -- the file is turned down
-  pub fresh-refused : (n : ℕ) → n ≡ first (fileTable F) → n ≢ 0 →
-      (n ≡ freshNumber F S) × (S ≡ freshLeft F S)
-  unfolding freshNumber freshTable
-  fresh-refused n e h = fresh-not n h (e ∙ sym (first-broken (fileTable F) _ (λ z. h (e ∙ z))))
+  pub fresh-refused : (n : ℕ) → n ≡ first (file_table F) → n ≢ 0 →
+      (n ≡ fresh_number F S) × (S ≡ fresh_left F S)
+  unfolding fresh_number fresh_table
+  fresh-refused n e h = fresh-not n h (e ∙ sym (first_broken (file_table F) _ (λ z. h (e ∙ z))))
 
-  module _ (z : first (fileTable F) ≡ 0) (long : ℕ)
-      (sized : long ≡ stateLength (projectOf F).groups (projectOf F).blocks) where
-    number_by : (t : Bool) → eqb (length S) (stateLength (projectOf F).groups (projectOf F).blocks) ≡ t →
-        freshNumber F S ≡ first (row 10 t ∷ [])
-    unfolding freshNumber freshTable
+  module _ (z : first (file_table F) ≡ 0) (long : ℕ)
+      (sized : long ≡ state_length (project_of F).groups (project_of F).blocks) where
+    number_by : (t : Bool) → eqb (length S) (state_length (project_of F).groups (project_of F).blocks) ≡ t →
+        fresh_number F S ≡ first (row 10 t ∷ [])
+    unfolding fresh_number fresh_table
     number_by t e =
-        first-kept (fileTable F) _ ((first-zero (fileTable F) (file-numbered F)).0 z)
+        first-kept (file_table F) _ ((first-zero (file_table F) (file_numbered F)).0 z)
         ∙ ap (λ (b : Bool). first (row 10 b ∷ [])) e
 
     -- the buffer is not of the exact size
-    pub fresh-unsized : length S ≢ long → (10 ≡ freshNumber F S) × (S ≡ freshLeft F S)
+    pub fresh-unsized : length S ≢ long → (10 ≡ fresh_number F S) × (S ≡ fresh_left F S)
     unfolding first
     fresh-unsized h =
         fresh-not 10 (λ z. omega arith) (sym (number_by _ (ne_eqb (length S) _ (λ q. h (q ∙ sym sized)))))
 
     -- it is
-    pub fresh-done : (X : List ℕ) → length S ≡ long → X ≡ freshFor (projectOf F) →
-        (0 ≡ freshNumber F S) × (X ≡ freshLeft F S)
-    unfolding first freshLeft
+    pub fresh-done : (X : List ℕ) → length S ≡ long → X ≡ fresh_for (project_of F) →
+        (0 ≡ fresh_number F S) × (X ≡ fresh_left F S)
+    unfolding first fresh_left
     fresh-done X h e =
-        let answer : 0 ≡ freshNumber F S = sym (number_by _ (eq-eqb (length S) _ (h ∙ sized))) in
+        let answer : 0 ≡ fresh_number F S = sym (number_by _ (eq-eqb (length S) _ (h ∙ sized))) in
         (answer, e ∙ rw (← answer))

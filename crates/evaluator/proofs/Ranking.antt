@@ -4,23 +4,23 @@ use Rattle.wire.proofs.Usual.{ltb, length, set, replicate, lt-ltb}
 use native.Mathlib.Nat.{not-suc-le-zero, mod-eq_of_lt}
 use lib.ListN.{length-set, get_or-replicate}
 use lib.Seq.{get_or-set_same, get_or-set_other}
-use Rattle.wire.specs.Words.{byteAt}
+use Rattle.wire.specs.Words.{byte_at}
 use Rattle.casefile.specs.Sound.{Sound}
-use Rattle.project.specs.Project.{blockCount, order_of, block_at}
+use Rattle.project.specs.Project.{block_count, order_of, block_at}
 use Rattle.casefile.proofs.Execution.{block-at-lt, block-at-is}
 use Rattle.block.specs.State.{only_if}
-use Rattle.evaluator.specs.Asks.{Ordered, Ranked, orderList}
-use Rattle.evaluator.proofs.Deciding.{row-length, row-at, row_is}
+use Rattle.evaluator.specs.Asks.{Ordered, Ranked, order_list}
+use Rattle.evaluator.proofs.Deciding.{row-length, row_at_is, row_is}
 use borrow.Author.Tests.{le-ltb}
 
 pub record Ranking (B : List ℕ) (n : ℕ) (K : List ℕ) (b : ℕ) : Type 0 where
   pub within : b ≤ n
   pub long : length K ≡ 64
-  pub each : (a : ℕ) → a < b → byteAt K (order_of B a) ≡ a
-  pub past : (e : ℕ) → e < 64 → n ≤ e → byteAt K e ≡ 0
+  pub each : (a : ℕ) → a < b → byte_at K (order_of B a) ≡ a
+  pub past : (e : ℕ) → e < 64 → n ≤ e → byte_at K e ≡ 0
 
-pub ranking-start : (B : List ℕ) (n : ℕ) → Ranking B n (replicate 64 0) 0
-ranking-start B n =
+pub ranking_start : (B : List ℕ) (n : ℕ) → Ranking B n (replicate 64 0) 0
+ranking_start B n =
     record {
       within = omega arith;
       long = refl;
@@ -42,35 +42,35 @@ module _ (B : List ℕ) (n : ℕ) (o : Ordered B n) where
       inside : e < length K
       inside = omega (arith, r.long, p, o.below b l, o.few)
 
-      go : (a : ℕ) → a < b + 1 → Dec (a ≡ b) → byteAt (set K e v) (order_of B a) ≡ a
+      go : (a : ℕ) → a < b + 1 → Dec (a ≡ b) → byte_at (set K e v) (order_of B a) ≡ a
       go a k (yes d) =
-          ap (λ (j : ℕ). byteAt (set K e v) (order_of B j)) d ∙ ap (byteAt (set K e v)) (sym p)
+          ap (λ (j : ℕ). byte_at (set K e v) (order_of B j)) d ∙ ap (byte_at (set K e v)) (sym p)
           ∙ get_or-set_same K e v 0 inside
           ∙ q ∙ mod-eq_of_lt {n = b} {m = 256} (omega (arith, o.few)) ∙ sym d
       go a k (no d) =
           get_or-set_other K e (order_of B a) v 0 (λ x. o.apart a b (omega (arith, d)) l d (x ∙ p))
           ∙ r.each a (omega (arith, d))
 
-  pub ranking-end : (K : List ℕ) → Ranking B n K n → K ≡ orderList B
-  unfolding orderList
-  ranking-end K r = row_is 64 (λ e. only_if (ltb e (blockCount B)) (block_at B e)) K r.long
+  pub ranking-end : (K : List ℕ) → Ranking B n K n → K ≡ order_list B
+  unfolding order_list
+  ranking-end K r = row_is 64 (λ e. only_if (ltb e (block_count B)) (block_at B e)) K r.long
       (λ e l. go e l (dec_lt e n))
     where
-      go : (e : ℕ) → e < 64 → Dec (e < n) → byteAt K e ≡ only_if (ltb e (blockCount B)) (block_at B e)
+      go : (e : ℕ) → e < 64 → Dec (e < n) → byte_at K e ≡ only_if (ltb e (block_count B)) (block_at B e)
       go e l (yes k) =
-          rw (lt-ltb e (blockCount B) (omega (arith, k, o.count)))
-          (ap (byteAt K) (sym (o.lands e k).1) ∙ r.each (block_at B e) (o.lands e k).0)
-      go e l (no k) = rw (le-ltb e (blockCount B) (omega (arith, k, o.count))) (r.past e l (omega (arith, k)))
+          rw (lt-ltb e (block_count B) (omega (arith, k, o.count)))
+          (ap (byte_at K) (sym (o.lands e k).1) ∙ r.each (block_at B e) (o.lands e k).0)
+      go e l (no k) = rw (le-ltb e (block_count B) (omega (arith, k, o.count))) (r.past e l (omega (arith, k)))
 
 -- the list has the blocks of an accepted project
-pub order-ranked : {G B : List ℕ} {n : ℕ} → Sound G B n → Ranked B (blockCount B) (orderList B)
-unfolding orderList
-order-ranked {B = B} g = record {
-  long = row-length 64 (λ e. only_if (ltb e (blockCount B)) (block_at B e));
+pub order_ranked : {G B : List ℕ} {n : ℕ} → Sound G B n → Ranked B (block_count B) (order_list B)
+unfolding order_list
+order_ranked {B = B} g = record {
+  long = row-length 64 (λ e. only_if (ltb e (block_count B)) (block_at B e));
   each = λ e l. (rw (here e l) (block-at-lt g e l), ap (order_of B) (here e l) ∙ block-at-is g e l);
 }
   where
-    here : (e : ℕ) → e < blockCount B → byteAt (orderList B) e ≡ block_at B e
+    here : (e : ℕ) → e < block_count B → byte_at (order_list B) e ≡ block_at B e
     here e l =
-        row-at 64 (λ e. only_if (ltb e (blockCount B)) (block_at B e)) e (omega (arith, g.fewBlocks))
-        ∙ rw (lt-ltb e (blockCount B) l)
+        row_at_is 64 (λ e. only_if (ltb e (block_count B)) (block_at B e)) e (omega (arith, g.few_blocks))
+        ∙ rw (lt-ltb e (block_count B) l)

@@ -2,66 +2,66 @@
 -- order", Sizes; "One cycle"; "Block state"). G, B and O are the bodies of the groups, the blocks and the outputs, h is
 -- how many groups there are, S the state.
 use Rattle.std.specs.Prelude.{ℕ, ◌+◌, ◌*◌, ◌/◌, ◌%◌, Bool, ◌&&◌, ◌||◌, List, eqb}
-use Rattle.wire.specs.Words.{byteAt}
+use Rattle.wire.specs.Words.{byte_at}
 use Rattle.wire.specs.Records.{slot}
 use Rattle.wire.specs.Places.{all}
-use Rattle.project.specs.Project.{word_size, groupCount, blockCount, kind_of, parametersOf, outputCount}
-use Rattle.block.specs.State.{stateSize}
-use Rattle.block.specs.Formed.{wellFormed}
-use Rattle.block.specs.Finding.{findingSize}
+use Rattle.project.specs.Project.{word_size, group_count, block_count, kind_of, parameters_of, output_count}
+use Rattle.block.specs.State.{state_size}
+use Rattle.block.specs.Formed.{well_formed}
+use Rattle.block.specs.Finding.{finding_size}
 
 -- ---- sizes
 
 -- 01, "Turned down", Sizes: state, 1 byte per group and then 16 per block. Where the groups' bytes start, and how many
 -- bytes stand before the blocks'
-abbrev pub groupsAt : ℕ
-groupsAt = 0
+abbrev pub groups_at : ℕ
+groups_at = 0
 
-abbrev pub stateHead : ℕ → ℕ
-stateHead h = groupsAt + h
+abbrev pub state_head : ℕ → ℕ
+state_head h = groups_at + h
 
-unfoldable pub stateLength : List ℕ → List ℕ → ℕ
-stateLength G B = stateHead (groupCount G) + stateSize * blockCount B
+unfoldable pub state_length : List ℕ → List ℕ → ℕ
+state_length G B = state_head (group_count G) + state_size * block_count B
 
 -- 01, "Turned down", Sizes: outputs 4 per output; findings 16 per block
-unfoldable pub outputsLength : List ℕ → ℕ
-outputsLength O = word_size * outputCount O
+unfoldable pub outputs_length : List ℕ → ℕ
+outputs_length O = word_size * output_count O
 
-unfoldable pub findingsLength : List ℕ → ℕ
-findingsLength B = findingSize * blockCount B
+unfoldable pub findings_length : List ℕ → ℕ
+findings_length B = finding_size * block_count B
 
 -- ---- the bytes
 
 -- 01, "Turned down", Sizes: group g's byte, and block b's bytes
-abbrev pub groupByte : List ℕ → ℕ → ℕ
-groupByte S g = byteAt S (groupsAt + g)
+abbrev pub group_byte : List ℕ → ℕ → ℕ
+group_byte S g = byte_at S (groups_at + g)
 
 unfoldable pub cell : ℕ → List ℕ → ℕ → List ℕ
-cell h S b = slot (stateHead h) stateSize b S
+cell h S b = slot (state_head h) state_size b S
 
 -- 01, "One cycle": the group byte has bit 0 held, bit 1 acknowledged
 abbrev pub is_held : ℕ → Bool
 is_held v = eqb (v % 2) 1
 
-abbrev pub isAcknowledged : ℕ → Bool
-isAcknowledged v = eqb (v / 2 % 2) 1
+abbrev pub is_acknowledged : ℕ → Bool
+is_acknowledged v = eqb (v / 2 % 2) 1
 
 -- ---- well formed
 
 -- 01, "One cycle": group bytes 0, 1 and 3 are well formed
-abbrev pub groupFormed : ℕ → Bool
-groupFormed v = eqb v 0 || eqb v 1 || eqb v 3
+abbrev pub group_formed : ℕ → Bool
+group_formed v = eqb v 0 || eqb v 1 || eqb v 3
 
-abbrev pub headFormed : List ℕ → ℕ → Bool
-headFormed S g = groupFormed (groupByte S g)
+abbrev pub head_formed : List ℕ → ℕ → Bool
+head_formed S g = group_formed (group_byte S g)
 
 -- 01, "Block state": well formed
-unfoldable pub cellFormed : ℕ → List ℕ → List ℕ → ℕ → Bool
-cellFormed h B S b = wellFormed (kind_of B b) (parametersOf B b) (cell h S b)
+unfoldable pub cell_formed : ℕ → List ℕ → List ℕ → ℕ → Bool
+cell_formed h B S b = well_formed (kind_of B b) (parameters_of B b) (cell h S b)
 
 -- the whole state
-abbrev pub formedWith : ℕ → List ℕ → List ℕ → Bool
-formedWith h B S = all (headFormed S) h && all (cellFormed h B S) (blockCount B)
+abbrev pub formed_with : ℕ → List ℕ → List ℕ → Bool
+formed_with h B S = all (head_formed S) h && all (cell_formed h B S) (block_count B)
 
-unfoldable pub stateFormed : List ℕ → List ℕ → List ℕ → Bool
-stateFormed G B S = formedWith (groupCount G) B S
+unfoldable pub state_formed : List ℕ → List ℕ → List ℕ → Bool
+state_formed G B S = formed_with (group_count G) B S

@@ -2,17 +2,17 @@
 -- runs a cycle. G, I and B are the bodies of the groups, the inputs and the blocks, R the record, S a well-formed
 -- state.
 use Rattle.std.specs.Prelude.{ℕ, cond, List}
-use Rattle.evaluator.specs.Cycle.{newState, newFindings, findingCount}
-use Rattle.evaluator.specs.Answer.{recordOk}
+use Rattle.evaluator.specs.Cycle.{new_state, new_findings, finding_count}
+use Rattle.evaluator.specs.Answer.{record_ok}
 use Rattle.evaluator.specs.declared.Answer.{Answer}
 use Rattle.evaluator.specs.declared.Answer.TheVariants.{Findings, Refused}
 
 -- 01, "Turned down", 12, and "One cycle": what it answers, and what it leaves of the state and of the findings D
-unfoldable pub stepAnswer : List ℕ → List ℕ → List ℕ → List ℕ → List ℕ → Answer
-stepAnswer G I B R S = cond (recordOk G I R) (Findings (findingCount G B R S)) (Refused 12)
+unfoldable pub step_answer : List ℕ → List ℕ → List ℕ → List ℕ → List ℕ → Answer
+step_answer G I B R S = cond (record_ok G I R) (Findings (finding_count G B R S)) (Refused 12)
 
-unfoldable pub stepState : List ℕ → List ℕ → List ℕ → List ℕ → List ℕ → List ℕ
-stepState G I B R S = cond (recordOk G I R) (newState G B R S) S
+unfoldable pub step_state : List ℕ → List ℕ → List ℕ → List ℕ → List ℕ → List ℕ
+step_state G I B R S = cond (record_ok G I R) (new_state G B R S) S
 
-unfoldable pub stepFindings : List ℕ → List ℕ → List ℕ → List ℕ → List ℕ → List ℕ → List ℕ
-stepFindings G I B R S D = cond (recordOk G I R) (newFindings G B R S) D
+unfoldable pub step_findings : List ℕ → List ℕ → List ℕ → List ℕ → List ℕ → List ℕ → List ℕ
+step_findings G I B R S D = cond (record_ok G I R) (new_findings G B R S) D

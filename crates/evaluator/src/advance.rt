@@ -1,6 +1,6 @@
 // One cycle of an accepted project, over a state, a record and buffers that were checked.
 ghost use Rattle.std.specs.Prelude.{◌≡◌};
-ghost use Rattle.evaluator.specs.Cycle.{newState, newOutputs, newFindings, findingCount};
+ghost use Rattle.evaluator.specs.Cycle.{new_state, new_outputs, new_findings, finding_count};
 ghost use Rattle.evaluator.specs.Asks.{Ready, Admitted};
 
 use project::Counts;
@@ -18,10 +18,10 @@ pub fn advance(
 ) -> u32
     requires { Ready c groups.now blocks.now ranks.now errors.now rec.now state.old findings.old }
     ensures left { state.new
-        ≡ newState groups.now blocks.now rec.now state.old }
+        ≡ new_state groups.now blocks.now rec.now state.old }
     ensures told { findings.new
-        ≡ newFindings groups.now blocks.now rec.now state.old }
-    ensures count { result ≡ findingCount groups.now blocks.now rec.now
+        ≡ new_findings groups.now blocks.now rec.now state.old }
+    ensures count { result ≡ finding_count groups.now blocks.now rec.now
         state.old }
 {
     let h = c.groups;
@@ -48,13 +48,13 @@ pub fn whole_cycle(
     requires { Admitted c groups.now blocks.now rows.now rec.now
         state.old outputs.old findings.old }
     ensures left { state.new
-        ≡ newState groups.now blocks.now rec.now state.old }
+        ≡ new_state groups.now blocks.now rec.now state.old }
     ensures shown { outputs.new
-        ≡ newOutputs groups.now blocks.now rows.now rec.now
+        ≡ new_outputs groups.now blocks.now rows.now rec.now
         state.old }
     ensures told { findings.new
-        ≡ newFindings groups.now blocks.now rec.now state.old }
-    ensures count { result ≡ findingCount groups.now blocks.now rec.now
+        ≡ new_findings groups.now blocks.now rec.now state.old }
+    ensures count { result ≡ finding_count groups.now blocks.now rec.now
         state.old }
 {
     let h = c.groups;

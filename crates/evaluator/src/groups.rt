@@ -1,9 +1,9 @@
 // The groups: which have a block in ERROR, their bytes after the cycle, and their phases in it.
 ghost use Rattle.std.specs.Prelude.{◌≡◌, ◌∷◌, [], ◌++◌, ◌+◌, ◌≤◌, length, drop};
 ghost use Rattle.wire.specs.Records.{gather};
-ghost use Rattle.evaluator.specs.State.{stateHead, is_held, isAcknowledged};
-ghost use Rattle.evaluator.specs.Groups.{pends, groupNext, phaseFrom, runsWith};
-ghost use Rattle.evaluator.specs.Asks.{Standing, errorList, Grouped, Decided, groupWith};
+ghost use Rattle.evaluator.specs.State.{state_head, is_held, is_acknowledged};
+ghost use Rattle.evaluator.specs.Groups.{pends, group_next, phase_from, runs_with};
+ghost use Rattle.evaluator.specs.Asks.{Standing, error_list, Grouped, Decided, group_with};
 
 use crate::GROUPS_AT;
 use crate::parts::part_at;
@@ -14,7 +14,7 @@ use project::{BLOCK_SIZE, HEAD_SIZE};
 pub fn error_groups(blocks: &[u8], h: usize, n: usize, state: &[u8]) -> [u8; 8]
     requires standing { Standing blocks.now state.now h }
     requires grouped { Grouped blocks.now n }
-    ensures { result ≡ errorList h blocks.now state.now }
+    ensures { result ≡ error_list h blocks.now state.now }
 {
     let mut marks = [0u8; 8];
     let mut b = 0;
@@ -43,14 +43,14 @@ fn is_held(byte: u8) -> bool
 }
 
 fn is_acknowledged(byte: u8) -> bool
-    ensures { result ≡ isAcknowledged byte }
+    ensures { result ≡ is_acknowledged byte }
 {
     byte / 2 % 2 == 1
 }
 
 // A group's byte after the cycle.
 fn group_next(pending: bool, ack: bool, old: u8) -> u8
-    ensures { result ≡ groupNext pending ack old }
+    ensures { result ≡ group_next pending ack old }
 {
     if pending {
         return 1;
@@ -66,7 +66,7 @@ fn group_next(pending: bool, ack: bool, old: u8) -> u8
 
 // A group's phase, from whether it is to run and its byte after the cycle.
 fn phase_from(run: bool, new: u8) -> u8
-    ensures { result ≡ phaseFrom run new }
+    ensures { result ≡ phase_from run new }
 {
     if !run {
         return block::PHASE_STOP;
@@ -81,18 +81,18 @@ fn phase_from(run: bool, new: u8) -> u8
 }
 
 fn runs_with(linked: u8, control: u8) -> bool
-    ensures { result ≡ runsWith linked control }
+    ensures { result ≡ runs_with linked control }
 {
     (linked == 0) | kind::is_run(control)
 }
 
 // The groups decide: their bytes in the state are the new ones, and the answer is their phases.
 pub fn decide(groups: &[u8], h: usize, rec: &[u8], errors: &[u8], state: &mut [u8]) -> [u8; 8]
-    requires { (h ≤ 8) × (stateHead h ≤ length state.old) }
+    requires { (h ≤ 8) × (state_head h ≤ length state.old) }
     ensures left { state.new
         ≡ gather h
-        (λ g. groupWith errors.now groups.now rec.now state.old g ∷ [])
-        ++ drop (stateHead h) state.old }
+        (λ g. group_with errors.now groups.now rec.now state.old g ∷ [])
+        ++ drop (state_head h) state.old }
     ensures phases { Decided errors.now groups.now rec.now
         state.old h result }
 {

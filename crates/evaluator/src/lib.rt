@@ -4,9 +4,9 @@
 // is. Below these calls nobody knows the file: a project is its bodies. The module `unchecked` is for a trace, whose
 // file is checked once.
 ghost use Rattle.std.specs.Prelude.{◌≡◌};
-ghost use Rattle.casefile.specs.Bodies.{startsOf};
-ghost use Rattle.evaluator.specs.Answer.{lends, refusal, cycleOf};
-ghost use Rattle.evaluator.specs.Fresh.{sizesOf, freshNumber, freshLeft};
+ghost use Rattle.casefile.specs.Bodies.{starts_of};
+ghost use Rattle.evaluator.specs.Answer.{lends, refusal, cycle_of};
+ghost use Rattle.evaluator.specs.Fresh.{sizes_of, fresh_number, fresh_left};
 
 mod advance;
 mod checks;
@@ -42,7 +42,7 @@ fn call_refusal(
     outputs: &[u8],
     findings: &[u8],
 ) -> u8
-    requires { starts ≡ startsOf file.now }
+    requires { starts ≡ starts_of file.now }
     ensures { result ≡ refusal file.now rec.now
         (lends state.now outputs.now findings.now) }
 {
@@ -86,16 +86,16 @@ pub fn cycle(
     outputs: &mut [u8],
     findings: &mut [u8],
 ) -> Answer
-    ensures answered { result ≡ (cycleOf file.now rec.now
+    ensures answered { result ≡ (cycle_of file.now rec.now
         (lends state.old outputs.old findings.old)).answer }
     ensures left { state.new
-        ≡ (cycleOf file.now rec.now
+        ≡ (cycle_of file.now rec.now
         (lends state.old outputs.old findings.old)).lent.state }
     ensures shown { outputs.new
-        ≡ (cycleOf file.now rec.now
+        ≡ (cycle_of file.now rec.now
         (lends state.old outputs.old findings.old)).lent.outputs }
     ensures told { findings.new
-        ≡ (cycleOf file.now rec.now
+        ≡ (cycle_of file.now rec.now
         (lends state.old outputs.old findings.old)).lent.findings }
 {
     let starts = casefile::starts_of(file);
@@ -125,7 +125,7 @@ pub enum Sizes {
 
 // The sizes of an accepted project's buffers.
 pub fn sizes_of(file: &[u8]) -> Sizes
-    ensures { result ≡ sizesOf file.now }
+    ensures { result ≡ sizes_of file.now }
 {
     let number = casefile::number_of(casefile::check(file));
     if number != 0 {
@@ -145,8 +145,8 @@ pub fn sizes_of(file: &[u8]) -> Sizes
 // The fresh state of an accepted project, into a buffer of the exact size. Answers 0, or the number with which the call
 // was turned down.
 pub fn fresh(file: &[u8], state: &mut [u8]) -> u8
-    ensures answered { result ≡ freshNumber file.now state.old }
-    ensures left { state.new ≡ freshLeft file.now state.old }
+    ensures answered { result ≡ fresh_number file.now state.old }
+    ensures left { state.new ≡ fresh_left file.now state.old }
 {
     let number = casefile::number_of(casefile::check(file));
     if number != 0 {

@@ -3,7 +3,7 @@ ghost use Rattle.std.specs.Prelude.{◌≡◌, ◌*◌, length};
 ghost use Rattle.wire.specs.Words.{bytes4};
 ghost use Rattle.wire.specs.Records.{gather};
 ghost use Rattle.project.specs.Project.{word_size};
-ghost use Rattle.evaluator.specs.Asks.{Standing, Showing, outputShown};
+ghost use Rattle.evaluator.specs.Asks.{Standing, Showing, output_shown};
 
 use crate::parts::part_at;
 use project::{OUTPUT_SIZE, WORD_SIZE};
@@ -22,7 +22,7 @@ pub fn write_outputs(
     requires outputs_len { length outputs.old ≡ word_size * m }
     ensures { outputs.new
         ≡ gather m
-        (λ o. bytes4 (outputShown h blocks.now rows.now state.now o)) }
+        (λ o. bytes4 (output_shown h blocks.now rows.now state.now o)) }
 {
     let mut o = 0;
     while o < m {

@@ -1,6 +1,6 @@
 // The blocks by execution number.
 ghost use Rattle.std.specs.Prelude.{◌≡◌};
-ghost use Rattle.evaluator.specs.Asks.{Ordered, orderList};
+ghost use Rattle.evaluator.specs.Asks.{Ordered, order_list};
 
 use crate::parts::part_at;
 use project::BLOCK_SIZE;
@@ -8,7 +8,7 @@ use project::BLOCK_SIZE;
 // The number of the block with the execution number e, at place e, and 0 past the n blocks.
 pub fn ranks(blocks: &[u8], n: usize) -> [u8; 64]
     requires { Ordered blocks.now n }
-    ensures { result ≡ orderList blocks.now }
+    ensures { result ≡ order_list blocks.now }
 {
     let mut at = [0u8; 64];
     let mut b = 0;

@@ -3,17 +3,17 @@
 ghost use Rattle.std.specs.Prelude.{◌≡◌, false, ◌++◌, ℕ, ◌+◌, ◌*◌, ◌≤◌, ◌<◌, take};
 ghost use Rattle.std.proofs.lemmas.List.Edits.{sets};
 ghost use Rattle.wire.specs.Records.{gather};
-ghost use Rattle.kind.specs.Kinds.{familyOf};
+ghost use Rattle.kind.specs.Kinds.{family_of};
 ghost use Rattle.kind.specs.declared.Family.TheVariants.{Decouple, Twohand, Arithmetic};
-ghost use Rattle.project.specs.Project.{blockCount, kindIn, groupIn};
-ghost use Rattle.block.specs.State.{stateSize};
-ghost use Rattle.block.specs.Inputs.{bitsFrom};
-ghost use Rattle.block.specs.Finding.{findingSize, findingOf};
+ghost use Rattle.project.specs.Project.{block_count, kind_in, group_in};
+ghost use Rattle.block.specs.State.{state_size};
+ghost use Rattle.block.specs.Inputs.{bits_from};
+ghost use Rattle.block.specs.Finding.{finding_size, finding_of};
 ghost use Rattle.evaluator.specs.Net.{reads};
-ghost use Rattle.evaluator.specs.State.{stateHead, cell};
-ghost use Rattle.evaluator.specs.Cycle.{wires, portShows};
-ghost use Rattle.evaluator.specs.Asks.{Standing, Named, Linked, Due, words_of, Turning, phaseAt, turned};
-ghost use Rattle.evaluator.specs.Asks.{entering, noted, Within, Running, ranWith, entersWith, slotWith};
+ghost use Rattle.evaluator.specs.State.{state_head, cell};
+ghost use Rattle.evaluator.specs.Cycle.{wires, port_shows};
+ghost use Rattle.evaluator.specs.Asks.{Standing, Named, Linked, Due, words_of, Turning, phase_at, turned};
+ghost use Rattle.evaluator.specs.Asks.{entering, noted, Within, Running, ran_with, enters_with, slot_with};
 
 use crate::GROUPS_AT;
 use crate::parts::{byte_at, part_at};
@@ -24,8 +24,8 @@ use project::{BLOCK_SIZE, HEAD_SIZE, Source, WORD_SIZE};
 // What port q of block a shows in the state.
 pub fn port_shows(blocks: &[u8], h: usize, state: &[u8], a: u8, q: u8) -> u32
     requires standing { Standing blocks.now state.now h }
-    requires a_bound { a < blockCount blocks.now }
-    ensures { result ≡ portShows blocks.now a q (cell h state.now a) }
+    requires a_bound { a < block_count blocks.now }
+    ensures { result ≡ port_shows blocks.now a q (cell h state.now a) }
 {
     let b = a as usize;
     let r = part_at(blocks, BLOCK_SIZE * b, BLOCK_SIZE);
@@ -55,7 +55,7 @@ fn port_bits(blocks: &[u8], r: &[u8], rec: &[u8], h: usize, state: &[u8], n: u8)
     requires standing { Standing blocks.now state.now h }
     requires linked { Linked h blocks.now rec.now r.now }
     requires n_bound { n ≤ 8 }
-    ensures { result ≡ bitsFrom (words_of h blocks.now rec.now state.now
+    ensures { result ≡ bits_from (words_of h blocks.now rec.now state.now
         r.now) n 0 }
 {
     let mut bits = 0;
@@ -72,8 +72,8 @@ fn port_bits(blocks: &[u8], r: &[u8], rec: &[u8], h: usize, state: &[u8], n: u8)
 fn note(r: &[u8], b: usize, x: u32, y: u32, h: usize, state: &[u8], findings: &mut [u8])
     requires { Within h b state.now }
     ensures { findings.new
-        ≡ sets findings.old (findingSize * b)
-        (findingOf b (groupIn r.now) (kindIn r.now) x y (cell h state.now b)) }
+        ≡ sets findings.old (finding_size * b)
+        (finding_of b (group_in r.now) (kind_in r.now) x y (cell h state.now b)) }
 {
     let number = (b % 256) as u8;
     let s = part_at(state, GROUPS_AT + h + STATE_SIZE * b, STATE_SIZE);
@@ -96,9 +96,9 @@ fn decouple_turn(
     requires linked { Linked h blocks.now rec.now r.now }
     requires turning { Turning h blocks.now rec.now state.old r.now b phase }
     requires within { Within h b state.old }
-    requires r_value { familyOf (kindIn r.now) ≡ Decouple }
+    requires r_value { family_of (kind_in r.now) ≡ Decouple }
     ensures left { state.new
-        ≡ sets state.old (stateHead h + stateSize * b)
+        ≡ sets state.old (state_head h + state_size * b)
         (turned h blocks.now rec.now phase state.old b) }
     ensures answered { result
         ≡ entering h blocks.now rec.now phase state.old b }
@@ -125,9 +125,9 @@ fn twohand_turn(
     requires linked { Linked h blocks.now rec.now r.now }
     requires turning { Turning h blocks.now rec.now state.old r.now b phase }
     requires within { Within h b state.old }
-    requires r_value { familyOf (kindIn r.now) ≡ Twohand }
+    requires r_value { family_of (kind_in r.now) ≡ Twohand }
     ensures left { state.new
-        ≡ sets state.old (stateHead h + stateSize * b)
+        ≡ sets state.old (state_head h + state_size * b)
         (turned h blocks.now rec.now phase state.old b) }
     ensures told { findings.new
         ≡ noted h blocks.now rec.now phase state.old b findings.old }
@@ -160,9 +160,9 @@ fn arithmetic_turn(
     requires linked { Linked h blocks.now rec.now r.now }
     requires turning { Turning h blocks.now rec.now state.old r.now b phase }
     requires within { Within h b state.old }
-    requires r_value { familyOf (kindIn r.now) ≡ Arithmetic }
+    requires r_value { family_of (kind_in r.now) ≡ Arithmetic }
     ensures left { state.new
-        ≡ sets state.old (stateHead h + stateSize * b)
+        ≡ sets state.old (state_head h + state_size * b)
         (turned h blocks.now rec.now phase state.old b) }
     ensures told { findings.new
         ≡ noted h blocks.now rec.now phase state.old b findings.old }
@@ -198,7 +198,7 @@ fn reading_turn(
     requires turning { Turning h blocks.now rec.now state.old r.now b phase }
     requires within { Within h b state.old }
     ensures left { state.new
-        ≡ sets state.old (stateHead h + stateSize * b)
+        ≡ sets state.old (state_head h + state_size * b)
         (turned h blocks.now rec.now phase state.old b) }
     ensures told { findings.new
         ≡ noted h blocks.now rec.now phase state.old b findings.old }
@@ -232,14 +232,14 @@ fn turn(
     requires standing { Standing blocks.now state.old h }
     requires due { Due h blocks.now rec.now phases.now b }
     ensures left { state.new
-        ≡ sets state.old (stateHead h + stateSize * b)
-        (turned h blocks.now rec.now (phaseAt blocks.now phases.now b)
+        ≡ sets state.old (state_head h + state_size * b)
+        (turned h blocks.now rec.now (phase_at blocks.now phases.now b)
         state.old b) }
     ensures told { findings.new
-        ≡ noted h blocks.now rec.now (phaseAt blocks.now phases.now b)
+        ≡ noted h blocks.now rec.now (phase_at blocks.now phases.now b)
         state.old b findings.old }
     ensures answered { result ≡ entering h blocks.now rec.now
-        (phaseAt blocks.now phases.now b) state.old b }
+        (phase_at blocks.now phases.now b) state.old b }
 {
     let r = part_at(blocks, BLOCK_SIZE * b, BLOCK_SIZE);
     let group = project::group_of(r) as usize;
@@ -267,14 +267,14 @@ pub fn take_turns(
     findings: &mut [u8],
 ) -> bool
     requires { Running h blocks.now rec.now phases.now ranks.now state.old findings.old n }
-    ensures left { state.new ≡ take (stateHead h) state.old
+    ensures left { state.new ≡ take (state_head h) state.old
         ++ gather n
-        (ranWith h blocks.now rec.now phases.now state.old) }
+        (ran_with h blocks.now rec.now phases.now state.old) }
     ensures told { findings.new
         ≡ gather n
-        (slotWith h blocks.now rec.now phases.now state.old) }
+        (slot_with h blocks.now rec.now phases.now state.old) }
     ensures none { result ≡ false → (b : ℕ) → b < n →
-        entersWith h blocks.now rec.now phases.now state.old b
+        enters_with h blocks.now rec.now phases.now state.old b
         ≡ false }
 {
     let mut some = false;

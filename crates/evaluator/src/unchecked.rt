@@ -3,9 +3,9 @@
 // the state that they themselves leave, and zeros of the findings' size. The crate `tracer` proves it; whoever has not
 // checked the file calls `cycle`.
 ghost use Rattle.std.specs.Prelude.{◌≡◌};
-ghost use Rattle.project.specs.Project.{inputCount};
-ghost use Rattle.evaluator.specs.Steps.{stepAnswer, stepState, stepFindings};
-ghost use Rattle.evaluator.specs.Asks.{Standing, Grouped, Ordered, Begun, Listed, orderList, errorList};
+ghost use Rattle.project.specs.Project.{input_count};
+ghost use Rattle.evaluator.specs.Steps.{step_answer, step_state, step_findings};
+ghost use Rattle.evaluator.specs.Asks.{Standing, Grouped, Ordered, Begun, Listed, order_list, error_list};
 
 use crate::Answer;
 use project::Counts;
@@ -13,7 +13,7 @@ use project::Counts;
 // The blocks by execution number.
 pub fn block_order(c: Counts, blocks: &[u8]) -> [u8; 64]
     requires { Ordered blocks.now c.blocks }
-    ensures { result ≡ orderList blocks.now }
+    ensures { result ≡ order_list blocks.now }
 {
     crate::ranks::ranks(blocks, c.blocks)
 }
@@ -22,7 +22,7 @@ pub fn block_order(c: Counts, blocks: &[u8]) -> [u8; 64]
 pub fn groups_in_error(c: Counts, blocks: &[u8], state: &[u8]) -> [u8; 8]
     requires standing { Standing blocks.now state.now c.groups }
     requires grouped { Grouped blocks.now c.blocks }
-    ensures { result ≡ errorList c.groups blocks.now state.now }
+    ensures { result ≡ error_list c.groups blocks.now state.now }
 {
     crate::groups::error_groups(blocks, c.groups, c.blocks, state)
 }
@@ -40,15 +40,15 @@ pub fn step(
     findings: &mut [u8],
 ) -> Answer
     requires listed { Listed c groups.now inputs.now }
-    requires begun { Begun c (inputCount inputs.now) groups.now blocks.now order.now errors.now state.old
+    requires begun { Begun c (input_count inputs.now) groups.now blocks.now order.now errors.now state.old
         findings.old }
-    ensures answered { result ≡ stepAnswer groups.now inputs.now blocks.now
+    ensures answered { result ≡ step_answer groups.now inputs.now blocks.now
         rec.now state.old }
     ensures left { state.new
-        ≡ stepState groups.now inputs.now blocks.now rec.now
+        ≡ step_state groups.now inputs.now blocks.now rec.now
         state.old }
     ensures told { findings.new
-        ≡ stepFindings groups.now inputs.now blocks.now rec.now
+        ≡ step_findings groups.now inputs.now blocks.now rec.now
         state.old findings.old }
 {
     if !crate::checks::record_ok(c, groups, inputs, rec) {

@@ -6,45 +6,45 @@ use mathlib.Core.List.{map}
 use lib.ListN.{length-map, get_or-map, take-append-drop}
 use lib.Seq.{take-set-lt, take-set-le, drop-set-lt, drop-set-add}
 use Rattle.year.specs.declared.Line.{Line}
-use Rattle.year.specs.Ledger.{monthCount}
-use Rattle.year.specs.Bends.{noLine, line_at}
+use Rattle.year.specs.Ledger.{month_count}
+use Rattle.year.specs.Bends.{no_line, line_at}
 use Rattle.year.proofs.Filling.{Filled, fill-begin, fill_more, fill_done, is-from}
 
 module _ {A : Type 0} (f : Line → A) where
   -- a half in which the months before k are there
   abbrev Half : List Line → List A → ℕ → Type 0
-  Half L ys k = Filled (f noLine) (λ i. f (line_at L i)) monthCount ys k
+  Half L ys k = Filled (f no_line) (λ i. f (line_at L i)) month_count ys k
 
-  half-done : (L : List Line) (ys : List A) (k : ℕ) → length L ≡ monthCount → Half L ys k →
-      monthCount ≤ k → ys ≡ map f L
+  half-done : (L : List Line) (ys : List A) (k : ℕ) → length L ≡ month_count → Half L ys k →
+      month_count ≤ k → ys ≡ map f L
   half-done L ys k e h l =
       fill_done _ _ _ _ _ h l
-      ∙ sym (is-from (f noLine) (map f L) monthCount _ (length-map L f ∙ e) (λ i m. get_or-map f L i noLine))
+      ∙ sym (is-from (f no_line) (map f L) month_count _ (length-map L f ∙ e) (λ i m. get_or-map f L i no_line))
 
   -- what the stores of month k leave of each half
-  before : (xs : List A) (k : ℕ) (v w : A) → k < monthCount →
-      take monthCount (set (set xs k v) (monthCount + k) w) ≡ set (take monthCount xs) k v
+  before : (xs : List A) (k : ℕ) (v w : A) → k < month_count →
+      take month_count (set (set xs k v) (month_count + k) w) ≡ set (take month_count xs) k v
   before xs k v w l =
-      take-set-le monthCount (set xs k v) (monthCount + k) w (omega arith) ∙ take-set-lt monthCount xs k v l
+      take-set-le month_count (set xs k v) (month_count + k) w (omega arith) ∙ take-set-lt month_count xs k v l
 
-  behind : (xs : List A) (k : ℕ) (v w : A) → k < monthCount →
-      drop monthCount (set (set xs k v) (monthCount + k) w) ≡ set (drop monthCount xs) k w
+  behind : (xs : List A) (k : ℕ) (v w : A) → k < month_count →
+      drop month_count (set (set xs k v) (month_count + k) w) ≡ set (drop month_count xs) k w
   behind xs k v w l =
-      drop-set-add monthCount (set xs k v) k w
-      ∙ ap (λ (ys : List A). set ys k w) (drop-set-lt monthCount xs k v l)
+      drop-set-add month_count (set xs k v) k w
+      ∙ ap (λ (ys : List A). set ys k w) (drop-set-lt month_count xs k v l)
 
   pub record Halves (L P : List Line) (xs : List A) (k : ℕ) : Type 0 where
-    pub first : Half L (take monthCount xs) k
-    pub second : Half P (drop monthCount xs) k
+    pub first : Half L (take month_count xs) k
+    pub second : Half P (drop month_count xs) k
 
   module _ (L P : List Line) where
-    pub halves-begin : (xs : List A) → length (take monthCount xs) ≡ monthCount →
-        length (drop monthCount xs) ≡ monthCount → Halves L P xs 0
+    pub halves-begin : (xs : List A) → length (take month_count xs) ≡ month_count →
+        length (drop month_count xs) ≡ month_count → Halves L P xs 0
     halves-begin xs e g = record { first = fill-begin _ _ _ _ e; second = fill-begin _ _ _ _ g }
 
     -- a month is stored in both
-    pub halves-more : (xs : List A) (k : ℕ) → Halves L P xs k → k < monthCount →
-        Halves L P (set (set xs k (f (line_at L k))) (monthCount + k) (f (line_at P k))) (k + 1)
+    pub halves-more : (xs : List A) (k : ℕ) → Halves L P xs k → k < month_count →
+        Halves L P (set (set xs k (f (line_at L k))) (month_count + k) (f (line_at P k))) (k + 1)
     halves-more xs k h l =
         let v : A = f (line_at L k) in
         let w : A = f (line_at P k) in
@@ -57,8 +57,8 @@ module _ {A : Type 0} (f : Line → A) where
               (fill_more _ _ _ _ _ _ h.second l refl);
         }
 
-    pub halves-done : (xs : List A) (k : ℕ) → length L ≡ monthCount → length P ≡ monthCount →
-        Halves L P xs k → monthCount ≤ k → xs ≡ map f L ++ map f P
+    pub halves-done : (xs : List A) (k : ℕ) → length L ≡ month_count → length P ≡ month_count →
+        Halves L P xs k → month_count ≤ k → xs ≡ map f L ++ map f P
     halves-done xs k e g h l =
-        sym (take-append-drop monthCount xs)
+        sym (take-append-drop month_count xs)
         ∙ ap₂ ◌++◌ (half-done L _ k e h.first l) (half-done P _ k g h.second l)

@@ -9,8 +9,8 @@ use mir.Facts.{to_z-of_z}
 pub count_fits : (n : ℕ) → n < 2147483648 → SFits w32 (pos n)
 count_fits n l = record { sfits = omega (arith, l) }
 
-pub count-is : (n : ℕ) → n < 2147483648 → to_z w32 n ≡ pos n
-count-is n l = to_z-of_z {w = w32} {z = pos n} (count_fits n l)
+pub count_is : (n : ℕ) → n < 2147483648 → to_z w32 n ≡ pos n
+count_is n l = to_z-of_z {w = w32} {z = pos n} (count_fits n l)
 
 from_zero : (n : ℕ) → pos 0 -ℤ pos n ≡ neg_ℤ (pos n)
 from_zero zero = refl
@@ -23,7 +23,7 @@ negated_fits (suc n) l = record { sfits = omega (arith, l) }
 -- the number's negation as the code makes it
 module _ (n : ℕ) (l : n < 256) where
   taken-off : pos 0 -ℤ to_z w32 n ≡ neg_ℤ (pos n)
-  taken-off = ap (λ (z : ℤ). pos 0 -ℤ z) (count-is n (omega (arith, l))) ∙ from_zero n
+  taken-off = ap (λ (z : ℤ). pos 0 -ℤ z) (count_is n (omega (arith, l))) ∙ from_zero n
 
   pub minus-fits : SFits w32 (pos 0 -ℤ to_z w32 n)
   minus-fits = subst (SFits w32) (sym taken-off) (negated_fits n l)

@@ -4,7 +4,7 @@ use Rattle.std.specs.Prelude.{ℕ, cond, List, [], ◌∷◌, ◌++◌, map, eqb
 use Rattle.year.specs.declared.Line.{Line}
 use Rattle.year.specs.declared.Table.{Table}
 use Rattle.year.specs.declared.Year.{Year}
-use Rattle.year.specs.Bends.{bendNumber}
+use Rattle.year.specs.Bends.{bend_number}
 use Rattle.hagglethwait.specs.declared.ledgers.Columns.{Columns}
 
 -- ---- what is stored
@@ -14,23 +14,23 @@ abbrev pub column : {A : Type 0} → (Line → A) → List Line → List Line �
 column f L P = map f L ++ map f P
 
 -- 02, W4: the findings, the dismissed ones and the rate, which is 0 where there is none (DECISIONS 57)
-unfoldable pub columnsOf : List Line → List Line → Columns
-columnsOf L P = record {
+unfoldable pub columns_of : List Line → List Line → Columns
+columns_of L P = record {
   findings = column (λ l. l.findings) L P;
   dismissed = column (λ l. l.dismissed) L P;
   rates = column (λ l. l.rate) L P;
 }
 
 -- 02, W4: the two bends, 0 for none
-abbrev pub bendsOf : Table → Table → List ℕ
-bendsOf e p = bendNumber e.bend ∷ bendNumber p.bend ∷ []
+abbrev pub bends_of : Table → Table → List ℕ
+bends_of e p = bend_number e.bend ∷ bend_number p.bend ∷ []
 
 -- 02, W4: of both tables of the answer
-abbrev pub columnsIn : Year → Columns
-columnsIn y = columnsOf y.every.lines y.person.lines
+abbrev pub columns_in : Year → Columns
+columns_in y = columns_of y.every.lines y.person.lines
 
-abbrev pub bendsIn : Year → List ℕ
-bendsIn y = bendsOf y.every y.person
+abbrev pub bends_in : Year → List ℕ
+bends_in y = bends_of y.every y.person
 
 -- ---- what is left
 
@@ -38,20 +38,20 @@ bendsIn y = bendsOf y.every y.person
 abbrev pub left : {A : Type 0} → Year → List A → List A → List A
 left y new old = cond (eqb y.number 0) new old
 
-unfoldable pub findingsLeft : Year → List ℕ → List ℕ
-findingsLeft y old = left y (columnsIn y).findings old
+unfoldable pub findings_left : Year → List ℕ → List ℕ
+findings_left y old = left y (columns_in y).findings old
 
-unfoldable pub dismissedLeft : Year → List ℕ → List ℕ
-dismissedLeft y old = left y (columnsIn y).dismissed old
+unfoldable pub dismissed_left : Year → List ℕ → List ℕ
+dismissed_left y old = left y (columns_in y).dismissed old
 
-unfoldable pub ratesLeft : Year → List Float → List Float
-ratesLeft y old = left y (columnsIn y).rates old
+unfoldable pub rates_left : Year → List Float → List Float
+rates_left y old = left y (columns_in y).rates old
 
-unfoldable pub bendsLeft : Year → List ℕ → List ℕ
-bendsLeft y old = left y (bendsIn y) old
+unfoldable pub bends_left : Year → List ℕ → List ℕ
+bends_left y old = left y (bends_in y) old
 
 -- ---- how large, as include/hagglethwait.h says it
 
 -- 02, W4: a bend has a later month
-abbrev pub mostBend : ℕ
-mostBend = 11
+abbrev pub most_bend : ℕ
+most_bend = 11

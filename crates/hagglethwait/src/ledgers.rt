@@ -1,6 +1,6 @@
 // What the call for a ledger stores (02, W4): the two tables as columns of numbers, that with script closings first.
 ghost use Rattle.std.specs.Prelude.{◌≡◌};
-ghost use Rattle.hagglethwait.specs.Ledgers.{columnsOf, bendsOf};
+ghost use Rattle.hagglethwait.specs.Ledgers.{columns_of, bends_of};
 
 use year::{Line, MONTHS, Table};
 
@@ -17,7 +17,7 @@ pub struct Columns {
 
 // The columns of both tables' lines.
 pub fn columns_of(every: [Line; MONTHS], person: [Line; MONTHS]) -> Columns
-    ensures { result ≡ columnsOf every person }
+    ensures { result ≡ columns_of every person }
 {
     let mut findings = [0u32; PLACES];
     let mut dismissed = [0u32; PLACES];
@@ -44,7 +44,7 @@ pub fn columns_of(every: [Line; MONTHS], person: [Line; MONTHS]) -> Columns
 
 // The bends of both tables.
 pub fn bends_of(every: Table, person: Table) -> [u8; 2]
-    ensures { result ≡ bendsOf every person }
+    ensures { result ≡ bends_of every person }
 {
     let first = every.bend;
     let second = person.bend;

@@ -3,11 +3,11 @@
 // lent as a pointer (`include/hagglethwait.h`). No function requires anything; refused, a call writes nothing.
 ghost use Rattle.std.specs.Prelude.{◌≡◌};
 ghost use Rattle.casefile.specs.Refusal.{verdict, number_of};
-ghost use Rattle.evaluator.specs.Fresh.{sizesOf, sizesNumber, freshNumber, freshLeft};
-ghost use Rattle.year.specs.Ledger.{ledgerNumber};
-ghost use Rattle.year.specs.Year.{yearOf};
-ghost use Rattle.hagglethwait.specs.Calls.{call_of, answerNumber, stateSaid, outputsSaid, findingsSaid};
-ghost use Rattle.hagglethwait.specs.Ledgers.{findingsLeft, dismissedLeft, ratesLeft, bendsLeft};
+ghost use Rattle.evaluator.specs.Fresh.{sizes_of, sizes_number, fresh_number, fresh_left};
+ghost use Rattle.year.specs.Ledger.{ledger_number};
+ghost use Rattle.year.specs.Year.{year_of};
+ghost use Rattle.hagglethwait.specs.Calls.{call_of, answer_number, state_said, outputs_said, findings_said};
+ghost use Rattle.hagglethwait.specs.Ledgers.{findings_left, dismissed_left, rates_left, bends_left};
 
 use evaluator::{Answer, Sizes};
 use ledgers::PLACES;
@@ -31,12 +31,12 @@ pub extern "C" fn hagglethwait_sizes(
     outputs: &mut u32,
     findings: &mut u32,
 ) -> u8
-    ensures answered { result ≡ sizesNumber (sizesOf file.now) }
-    ensures stated { state.new ≡ stateSaid (sizesOf file.now) state.old }
+    ensures answered { result ≡ sizes_number (sizes_of file.now) }
+    ensures stated { state.new ≡ state_said (sizes_of file.now) state.old }
     ensures shown { outputs.new
-        ≡ outputsSaid (sizesOf file.now) outputs.old }
+        ≡ outputs_said (sizes_of file.now) outputs.old }
     ensures told { findings.new
-        ≡ findingsSaid (sizesOf file.now) findings.old }
+        ≡ findings_said (sizes_of file.now) findings.old }
 {
     let sizes = evaluator::sizes_of(file);
     match sizes {
@@ -58,8 +58,8 @@ pub extern "C" fn hagglethwait_sizes(
 // turned down.
 #[unsafe(no_mangle)]
 pub extern "C" fn hagglethwait_fresh(file: &[u8], state: &mut [u8]) -> u8
-    ensures answered { result ≡ freshNumber file.now state.old }
-    ensures left { state.new ≡ freshLeft file.now state.old }
+    ensures answered { result ≡ fresh_number file.now state.old }
+    ensures left { state.new ≡ fresh_left file.now state.old }
 {
     evaluator::fresh(file, state)
 }
@@ -74,7 +74,7 @@ pub extern "C" fn hagglethwait_cycle(
     outputs: &mut [u8],
     findings: &mut [u8],
 ) -> i32
-    ensures answered { result ≡ answerNumber (call_of file.now rec.now state.old
+    ensures answered { result ≡ answer_number (call_of file.now rec.now state.old
         outputs.old findings.old).answer }
     ensures left { state.new ≡ (call_of file.now rec.now state.old
         outputs.old findings.old).lent.state }
@@ -100,13 +100,13 @@ pub extern "C" fn hagglethwait_ledger(
     rates: &mut [f64; PLACES],
     bends: &mut [u8; 2],
 ) -> u8
-    ensures answered { result ≡ ledgerNumber file.now }
+    ensures answered { result ≡ ledger_number file.now }
     ensures found { findings.new
-        ≡ findingsLeft (yearOf file.now) findings.old }
+        ≡ findings_left (year_of file.now) findings.old }
     ensures gone { dismissed.new
-        ≡ dismissedLeft (yearOf file.now) dismissed.old }
-    ensures rated { rates.new ≡ ratesLeft (yearOf file.now) rates.old }
-    ensures bent { bends.new ≡ bendsLeft (yearOf file.now) bends.old }
+        ≡ dismissed_left (year_of file.now) dismissed.old }
+    ensures rated { rates.new ≡ rates_left (year_of file.now) rates.old }
+    ensures bent { bends.new ≡ bends_left (year_of file.now) bends.old }
 {
     let answer = year::year_of(file);
     if answer.number != 0 {

@@ -1,7 +1,7 @@
 -- The devices: what each has and allows, one row for each (01, "The case file"), and the rules that go by it.
 use Rattle.std.specs.Prelude.{ℕ, ◌/◌, ◌%◌, Bool, true, false, cond, not, ◌&&◌, ◌||◌, eqb, leb}
-use Rattle.kind.specs.Kinds.{familyOf}
-use Rattle.kind.specs.Masks.{isWithin, meets}
+use Rattle.kind.specs.Kinds.{family_of}
+use Rattle.kind.specs.Masks.{is_within, meets}
 use Rattle.kind.specs.declared.Device.{Device}
 use Rattle.kind.specs.declared.Family.{Family}
 use Rattle.kind.specs.declared.Family.TheVariants.{Decouple, Twohand, Arithmetic, Unknown}
@@ -9,17 +9,17 @@ use Rattle.kind.specs.declared.Family.TheVariants.{Decouple, Twohand, Arithmetic
 -- ---- a group's byte of a record
 
 -- 01, "The case file", T: bit 0 Run, 1 ErrAck, 2 ComErr, 3 ModuleFault
-abbrev pub isRun : ℕ → Bool
-isRun v = eqb (v % 2) 1
+abbrev pub is_run : ℕ → Bool
+is_run v = eqb (v % 2) 1
 
-abbrev pub isErrAck : ℕ → Bool
-isErrAck v = eqb (v / 2 % 2) 1
+abbrev pub is_err_ack : ℕ → Bool
+is_err_ack v = eqb (v / 2 % 2) 1
 
-abbrev pub isComErr : ℕ → Bool
-isComErr v = eqb (v / 4 % 2) 1
+abbrev pub is_com_err : ℕ → Bool
+is_com_err v = eqb (v / 4 % 2) 1
 
-abbrev pub isModuleFault : ℕ → Bool
-isModuleFault v = eqb (v / 8 % 2) 1
+abbrev pub is_module_fault : ℕ → Bool
+is_module_fault v = eqb (v / 8 % 2) 1
 
 -- ---- the devices
 
@@ -54,8 +54,8 @@ el6910 = record {
 }
 
 -- general: what is no device has and allows nothing
-abbrev pub noDevice : Device
-noDevice = record {
+abbrev pub no_device : Device
+no_device = record {
   known = false;
   twohand = false;
   arithmetic = false;
@@ -65,11 +65,11 @@ noDevice = record {
 }
 
 -- 01, "The case file": the device of G's byte
-unfoldable pub deviceOf : ℕ → Device
-deviceOf d = cond (eqb d EL6900) el6900 (cond (eqb d EL6910) el6910 noDevice)
+unfoldable pub device_of : ℕ → Device
+device_of d = cond (eqb d EL6900) el6900 (cond (eqb d EL6910) el6910 no_device)
 
-abbrev pub isDevice : ℕ → Bool
-isDevice d = (deviceOf d).known
+abbrev pub is_device : ℕ → Bool
+is_device d = (device_of d).known
 
 -- 01, "The case file": which device has which blocks; every device has DECOUPLE
 abbrev pub has : Device → Family → Bool
@@ -79,18 +79,18 @@ has v Arithmetic = v.arithmetic
 has v Unknown = false
 
 abbrev pub available : ℕ → ℕ → Bool
-available d k = has (deviceOf d) (familyOf k)
+available d k = has (device_of d) (family_of k)
 
 -- ---- the rules that go by the device
 
 -- 01, "The case file", G: one byte per group, 1 if Run is linked, 0 if not; on EL6910 it must be 1
-abbrev pub groupRule : ℕ → ℕ → Bool
-groupRule d run = leb run 1 && (not (deviceOf d).tied || eqb run 1)
+abbrev pub group_rule : ℕ → ℕ → Bool
+group_rule d run = leb run 1 && (not (device_of d).tied || eqb run 1)
 
 -- 01, "The case file", T: no other bits; where Run is not linked, bit 0 must be 0
-abbrev pub controlRule : ℕ → ℕ → ℕ → Bool
-controlRule d linked v = isWithin v (deviceOf d).controls && (eqb linked 1 || not (isRun v))
+abbrev pub control_rule : ℕ → ℕ → ℕ → Bool
+control_rule d linked v = is_within v (device_of d).controls && (eqb linked 1 || not (is_run v))
 
 -- 01, "One cycle": pending means ComErr, ModuleFault, or some block of the group in ERROR: the part of the group's byte
-abbrev pub isPending : ℕ → ℕ → Bool
-isPending d v = meets v (deviceOf d).pending
+abbrev pub is_pending : ℕ → ℕ → Bool
+is_pending d v = meets v (device_of d).pending

@@ -3,8 +3,8 @@ use Rattle.std.specs.Prelude.{ℕ, Bool, not, eqb}
 use Rattle.std.specs.Int.Bits.{bit_and, bit_or}
 
 -- general: no bit of v that the mask has not
-unfoldable pub isWithin : ℕ → ℕ → Bool
-isWithin v mask = eqb (bit_or v mask) mask
+unfoldable pub is_within : ℕ → ℕ → Bool
+is_within v mask = eqb (bit_or v mask) mask
 
 -- general: some bit of v that the mask has too
 unfoldable pub meets : ℕ → ℕ → Bool

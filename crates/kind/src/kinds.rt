@@ -1,13 +1,13 @@
 // The family of a kind, and which device has which.
 ghost use Rattle.std.specs.Prelude.{◌≡◌};
-ghost use Rattle.kind.specs.Kinds.{familyOf};
+ghost use Rattle.kind.specs.Kinds.{family_of};
 ghost use Rattle.kind.specs.Devices.{has, available};
 
 use crate::{ADD, DECOUPLE, DIV, Device, Family, TWOHAND};
 
 // The family of a kind.
 pub fn family_of(kind: u8) -> Family
-    ensures { result ≡ familyOf kind }
+    ensures { result ≡ family_of kind }
 {
     if kind == DECOUPLE {
         return Family::Decouple;

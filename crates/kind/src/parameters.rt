@@ -1,27 +1,27 @@
 // The 12 parameter bytes of a block: each by its name, and the rule that they keep by themselves.
 ghost use Rattle.std.specs.Prelude.{◌≡◌, eqb};
 ghost use Rattle.wire.specs.Words.{le32};
-ghost use Rattle.kind.specs.Parameters.{activeMask, openMask, limitsOf, firstType, secondType, outputType};
-ghost use Rattle.kind.specs.Parameters.{roundingByte, twohandRule, arithmeticRule, parametersFit, parametersOk};
+ghost use Rattle.kind.specs.Parameters.{active_mask, open_mask, limits_of, first_type, second_type, output_type};
+ghost use Rattle.kind.specs.Parameters.{rounding_byte, twohand_rule, arithmetic_rule, parameters_fit, parameters_ok};
 
 use crate::devices::is_within;
 use crate::{BOOL, DIV, Family, Limits};
 
 // TWOHAND's parameters.
 pub fn active_mask(p: &[u8]) -> u8
-    ensures { result ≡ activeMask p.now }
+    ensures { result ≡ active_mask p.now }
 {
     wire::byte(p, 0)
 }
 
 pub fn open_mask(p: &[u8]) -> u8
-    ensures { result ≡ openMask p.now }
+    ensures { result ≡ open_mask p.now }
 {
     wire::byte(p, 1)
 }
 
 pub fn limits_of(p: &[u8]) -> Limits
-    ensures { result ≡ limitsOf p.now }
+    ensures { result ≡ limits_of p.now }
 {
     Limits {
         first: wire::read16(p, 2),
@@ -32,25 +32,25 @@ pub fn limits_of(p: &[u8]) -> Limits
 
 // The parameters of arithmetic.
 pub fn first_type(p: &[u8]) -> u8
-    ensures { result ≡ firstType p.now }
+    ensures { result ≡ first_type p.now }
 {
     wire::byte(p, 0)
 }
 
 pub fn second_type(p: &[u8]) -> u8
-    ensures { result ≡ secondType p.now }
+    ensures { result ≡ second_type p.now }
 {
     wire::byte(p, 1)
 }
 
 pub fn output_type(p: &[u8]) -> u8
-    ensures { result ≡ outputType p.now }
+    ensures { result ≡ output_type p.now }
 {
     wire::byte(p, 2)
 }
 
 pub fn rounding(p: &[u8]) -> u8
-    ensures { result ≡ roundingByte p.now }
+    ensures { result ≡ rounding_byte p.now }
 {
     wire::byte(p, 3)
 }
@@ -64,7 +64,7 @@ fn zeros_at(p: &[u8], k: usize) -> bool
 
 // TWOHAND: the masks and the times.
 fn twohand_rule(active: u8, opened: u8, l: Limits) -> bool
-    ensures { result ≡ twohandRule active opened l }
+    ensures { result ≡ twohand_rule active opened l }
 {
     (active < 16)
         & is_within(opened, active)
@@ -79,7 +79,7 @@ fn twohand_rule(active: u8, opened: u8, l: Limits) -> bool
 
 // Arithmetic: three number types, and a rounding that only DIV has.
 fn arithmetic_rule(kind: u8, first: u8, second: u8, output: u8, rounding: u8) -> bool
-    ensures { result ≡ arithmeticRule kind first second output rounding }
+    ensures { result ≡ arithmetic_rule kind first second output rounding }
 {
     (first < BOOL)
         & (second < BOOL)
@@ -90,7 +90,7 @@ fn arithmetic_rule(kind: u8, first: u8, second: u8, output: u8, rounding: u8) ->
 
 // The parameters' rule of a family.
 fn parameters_fit(family: Family, kind: u8, p: &[u8]) -> bool
-    ensures { result ≡ parametersFit family kind p.now }
+    ensures { result ≡ parameters_fit family kind p.now }
 {
     match family {
         Family::Decouple => zeros_at(p, 0) & zeros_at(p, 4) & zeros_at(p, 8),
@@ -112,7 +112,7 @@ fn parameters_fit(family: Family, kind: u8, p: &[u8]) -> bool
 
 // The device has the kind, and the parameters keep the kind's rule.
 pub fn parameters_ok(device: u8, kind: u8, p: &[u8]) -> bool
-    ensures { result ≡ parametersOk device kind p.now }
+    ensures { result ≡ parameters_ok device kind p.now }
 {
     crate::kinds::on_device(device, kind) & parameters_fit(crate::kinds::family_of(kind), kind, p)
 }

@@ -1,7 +1,7 @@
 // The ports of a kind, and their types.
 ghost use Rattle.std.specs.Prelude.{◌≡◌};
-ghost use Rattle.kind.specs.Ports.{portsInOf, portsIn, portsOutOf, portsOut, arithmeticIn, arithmeticOut};
-ghost use Rattle.kind.specs.Ports.{typeInOf, typeIn, typeOutOf, typeOut};
+ghost use Rattle.kind.specs.Ports.{ports_in_of, ports_in, ports_out_of, ports_out, arithmetic_in, arithmetic_out};
+ghost use Rattle.kind.specs.Ports.{type_in_of, type_in, type_out_of, type_out};
 
 use crate::kinds::family_of;
 use crate::parameters::{first_type, output_type, second_type};
@@ -9,7 +9,7 @@ use crate::{BOOL, Family};
 
 // How many input ports a family has, and how many output ports.
 fn ports_in_of(family: Family) -> u8
-    ensures { result ≡ portsInOf family }
+    ensures { result ≡ ports_in_of family }
 {
     match family {
         Family::Decouple => 8,
@@ -20,7 +20,7 @@ fn ports_in_of(family: Family) -> u8
 }
 
 fn ports_out_of(family: Family) -> u8
-    ensures { result ≡ portsOutOf family }
+    ensures { result ≡ ports_out_of family }
 {
     match family {
         Family::Decouple => 8,
@@ -32,20 +32,20 @@ fn ports_out_of(family: Family) -> u8
 
 // How many input ports a kind has, and how many output ports.
 pub fn ports_in(kind: u8) -> u8
-    ensures { result ≡ portsIn kind }
+    ensures { result ≡ ports_in kind }
 {
     ports_in_of(family_of(kind))
 }
 
 pub fn ports_out(kind: u8) -> u8
-    ensures { result ≡ portsOut kind }
+    ensures { result ≡ ports_out kind }
 {
     ports_out_of(family_of(kind))
 }
 
 // The type of an input port of arithmetic, and of an output port.
 fn arithmetic_in(p: &[u8], port: u8) -> u8
-    ensures { result ≡ arithmeticIn p.now port }
+    ensures { result ≡ arithmetic_in p.now port }
 {
     if port == 0 {
         return first_type(p);
@@ -54,7 +54,7 @@ fn arithmetic_in(p: &[u8], port: u8) -> u8
 }
 
 fn arithmetic_out(p: &[u8], port: u8) -> u8
-    ensures { result ≡ arithmeticOut p.now port }
+    ensures { result ≡ arithmetic_out p.now port }
 {
     if port == 0 {
         return BOOL;
@@ -64,7 +64,7 @@ fn arithmetic_out(p: &[u8], port: u8) -> u8
 
 // The type of an input port of a family, and of an output port.
 fn type_in_of(family: Family, p: &[u8], port: u8) -> u8
-    ensures { result ≡ typeInOf family p.now port }
+    ensures { result ≡ type_in_of family p.now port }
 {
     match family {
         Family::Decouple => BOOL,
@@ -75,7 +75,7 @@ fn type_in_of(family: Family, p: &[u8], port: u8) -> u8
 }
 
 fn type_out_of(family: Family, p: &[u8], port: u8) -> u8
-    ensures { result ≡ typeOutOf family p.now port }
+    ensures { result ≡ type_out_of family p.now port }
 {
     match family {
         Family::Decouple => BOOL,
@@ -87,13 +87,13 @@ fn type_out_of(family: Family, p: &[u8], port: u8) -> u8
 
 // The type of an input port of a kind, and of an output port.
 pub fn type_in(kind: u8, p: &[u8], port: u8) -> u8
-    ensures { result ≡ typeIn kind p.now port }
+    ensures { result ≡ type_in kind p.now port }
 {
     type_in_of(family_of(kind), p, port)
 }
 
 pub fn type_out(kind: u8, p: &[u8], port: u8) -> u8
-    ensures { result ≡ typeOut kind p.now port }
+    ensures { result ≡ type_out kind p.now port }
 {
     type_out_of(family_of(kind), p, port)
 }

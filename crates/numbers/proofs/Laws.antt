@@ -13,8 +13,8 @@ use lib.Dec.{ltb, leb, leb-suc-suc, eqb-suc-zero, lit<, lit≤}
 use lib.IntN.{ℤ, pos, negsuc, neg_ℤ, nat_abs, sub_ℕ, ◌+ℤ◌, ◌*ℤ◌, +ℤ_comm, neg_ℤ-+ℤ, neg_ℤ-neg_ℤ}
 use lib.IntN.{zero-*ℤ}
 use lib.Signed.{lt_z, le_z}
-use Rattle.numbers.specs.Types.{sgn, isNeg, signed, z_of, is_signed, under, over, value, word_of}
-use Rattle.numbers.specs.Results.{differ, settled, away, roundedDiv, quotient}
+use Rattle.numbers.specs.Types.{sgn, is_neg, signed, z_of, is_signed, under, over, value, word_of}
+use Rattle.numbers.specs.Results.{differ, settled, away, rounded_div, quotient}
 use Rattle.numbers.specs.declared.Rounding.{Rounding}
 use Rattle.numbers.specs.declared.Rounding.TheVariants.{Floor, Ceil, Round}
 use Rattle.numbers.specs.declared.Signed.{Signed}
@@ -25,68 +25,68 @@ use Rattle.numbers.specs.declared.Outcome.TheVariants.{Below, Above, Value}
 -- ---- sign and magnitude of a number
 
 -- they make the number
-pub z-signed : (z : ℤ) → z_of (signed z) ≡ z
-z-signed (pos n) = refl
-z-signed (negsuc n) = refl
+pub z_signed : (z : ℤ) → z_of (signed z) ≡ z
+z_signed (pos n) = refl
+z_signed (negsuc n) = refl
 
 pub loaded : (s : Signed) (z : ℤ) → s ≡ signed z → z_of s ≡ z
-loaded s z e = ap z_of e ∙ z-signed z
+loaded s z e = ap z_of e ∙ z_signed z
 
-pub abs-sgn : (s : Bool) (m : ℕ) → nat_abs (sgn s m) ≡ m
-abs-sgn false m = refl
-abs-sgn true zero = refl
-abs-sgn true (suc m) = refl
+pub abs_sgn : (s : Bool) (m : ℕ) → nat_abs (sgn s m) ≡ m
+abs_sgn false m = refl
+abs_sgn true zero = refl
+abs_sgn true (suc m) = refl
 
-pub below-zero : (m : ℕ) → 0 < m → isNeg (neg_ℤ (pos m)) ≡ true
-below-zero zero h = absurd (not-suc-le-zero h)
-below-zero (suc m) h = refl
+pub below_zero : (m : ℕ) → 0 < m → is_neg (neg_ℤ (pos m)) ≡ true
+below_zero zero h = absurd (not-suc-le-zero h)
+below_zero (suc m) h = refl
 
 -- ---- a difference of two magnitudes
 
-pub sub-le : {a b : ℕ} → b ≤ a → sub_ℕ a b ≡ pos (a - b)
-sub-le {a} {b} h = rw (le-ltb a b h)
+pub sub_le : {a b : ℕ} → b ≤ a → sub_ℕ a b ≡ pos (a - b)
+sub_le {a} {b} h = rw (le-ltb a b h)
 
-pub sub-lt : {a b : ℕ} → a < b → sub_ℕ a b ≡ neg_ℤ (pos (b - a))
-sub-lt {a} {b} h =
+pub sub_lt : {a b : ℕ} → a < b → sub_ℕ a b ≡ neg_ℤ (pos (b - a))
+sub_lt {a} {b} h =
     let e : b - a ≡ suc (b - suc a) = omega arith in
     rw (lt-ltb a b h, e)
 
 -- ---- sums
 
-pub pos-neg : (m n : ℕ) → pos m +ℤ neg_ℤ (pos n) ≡ sub_ℕ m n
-pos-neg m zero = ap pos (add-zero m ∙ sym (sub-zero m)) ∙ sym (sub-le (omega arith))
-pos-neg m (suc n) = refl
+pub pos_neg : (m n : ℕ) → pos m +ℤ neg_ℤ (pos n) ≡ sub_ℕ m n
+pos_neg m zero = ap pos (add-zero m ∙ sym (sub-zero m)) ∙ sym (sub_le (omega arith))
+pos_neg m (suc n) = refl
 
-pub neg-pos : (m n : ℕ) → neg_ℤ (pos m) +ℤ pos n ≡ sub_ℕ n m
-neg-pos m n = +ℤ_comm (neg_ℤ (pos m)) (pos n) ∙ pos-neg n m
+pub neg_pos : (m n : ℕ) → neg_ℤ (pos m) +ℤ pos n ≡ sub_ℕ n m
+neg_pos m n = +ℤ_comm (neg_ℤ (pos m)) (pos n) ∙ pos_neg n m
 
-pub neg-neg : (m n : ℕ) → neg_ℤ (pos m) +ℤ neg_ℤ (pos n) ≡ neg_ℤ (pos (m + n))
-neg-neg m n = sym (neg_ℤ-+ℤ (pos m) (pos n))
+pub neg_neg : (m n : ℕ) → neg_ℤ (pos m) +ℤ neg_ℤ (pos n) ≡ neg_ℤ (pos (m + n))
+neg_neg m n = sym (neg_ℤ-+ℤ (pos m) (pos n))
 
-pub sgn-not : (s : Bool) (m : ℕ) → sgn (not s) m ≡ neg_ℤ (sgn s m)
-sgn-not false m = refl
-sgn-not true m = sym (neg_ℤ-neg_ℤ (pos m))
+pub sgn_not : (s : Bool) (m : ℕ) → sgn (not s) m ≡ neg_ℤ (sgn s m)
+sgn_not false m = refl
+sgn_not true m = sym (neg_ℤ-neg_ℤ (pos m))
 
 -- ---- products
 
-pub neg-mul : (m n : ℕ) → neg_ℤ (pos m) *ℤ pos n ≡ neg_ℤ (pos (m * n))
-neg-mul zero n = rw (zero-mul n)
-neg-mul (suc m) n = refl
+pub neg_mul : (m n : ℕ) → neg_ℤ (pos m) *ℤ pos n ≡ neg_ℤ (pos (m * n))
+neg_mul zero n = rw (zero-mul n)
+neg_mul (suc m) n = refl
 
-mul-neg : (m n : ℕ) → pos m *ℤ neg_ℤ (pos n) ≡ neg_ℤ (pos (m * n))
-mul-neg m zero = rw (mul-zero m)
-mul-neg m (suc n) = refl
+mul_neg : (m n : ℕ) → pos m *ℤ neg_ℤ (pos n) ≡ neg_ℤ (pos (m * n))
+mul_neg m zero = rw (mul-zero m)
+mul_neg m (suc n) = refl
 
-both-neg : (m n : ℕ) → neg_ℤ (pos m) *ℤ neg_ℤ (pos n) ≡ pos (m * n)
-both-neg zero n = rw (zero-mul n) (zero-*ℤ (neg_ℤ (pos n)))
-both-neg (suc m) zero = rw (mul-zero (suc m))
-both-neg (suc m) (suc n) = refl
+both_neg : (m n : ℕ) → neg_ℤ (pos m) *ℤ neg_ℤ (pos n) ≡ pos (m * n)
+both_neg zero n = rw (zero-mul n) (zero-*ℤ (neg_ℤ (pos n)))
+both_neg (suc m) zero = rw (mul-zero (suc m))
+both_neg (suc m) (suc n) = refl
 
-pub sgn-mul : (s t : Bool) (m n : ℕ) → sgn s m *ℤ sgn t n ≡ sgn (differ s t) (m * n)
-sgn-mul false false m n = refl
-sgn-mul false true m n = mul-neg m n
-sgn-mul true false m n = neg-mul m n
-sgn-mul true true m n = both-neg m n
+pub sgn_mul : (s t : Bool) (m n : ℕ) → sgn s m *ℤ sgn t n ≡ sgn (differ s t) (m * n)
+sgn_mul false false m n = refl
+sgn_mul false true m n = mul_neg m n
+sgn_mul true false m n = neg_mul m n
+sgn_mul true true m n = both_neg m n
 
 -- the product of two numbers of k bits has at most k + k
 pub below : (k : ℕ) {a b : ℕ} → a < 2 ^ k → b < 2 ^ k → a * b < 2 ^ (k + k)
@@ -100,10 +100,10 @@ pub value_low : (t : NumType) {w : ℕ} → is_signed t ≡ true → w < 2147483
 unfolding value
 value_low t {w} e h = rw (e, lt-leb 2147483648 w h)
 
-pub value-high : (t : NumType) {w : ℕ} → is_signed t ≡ true → 2147483648 ≤ w → w < 4294967296 →
+pub value_high : (t : NumType) {w : ℕ} → is_signed t ≡ true → 2147483648 ≤ w → w < 4294967296 →
     value t w ≡ neg_ℤ (pos (4294967296 - w))
 unfolding value
-value-high t {w} e h k = rw (e, le-leb 2147483648 w h) (sub-lt k)
+value_high t {w} e h k = rw (e, le-leb 2147483648 w h) (sub_lt k)
 
 pub value-plain : (t : NumType) {w : ℕ} → is_signed t ≡ false → value t w ≡ pos w
 unfolding value
@@ -112,97 +112,97 @@ value-plain t e = rw e
 -- ---- order
 
 -- what is not above 0 is not above a number that is not below 0
-pub not-less : (m n : ℕ) → lt_z (pos m) (neg_ℤ (pos n)) ≡ false
-not-less m zero = le-ltb m 0 zero-le
-not-less m (suc n) = refl
+pub not_less : (m n : ℕ) → lt_z (pos m) (neg_ℤ (pos n)) ≡ false
+not_less m zero = le-ltb m 0 zero-le
+not_less m (suc n) = refl
 
-pub neg-less : (m n : ℕ) → lt_z (neg_ℤ (pos m)) (neg_ℤ (pos n)) ≡ ltb n m
-neg-less zero n = not-less 0 n ∙ sym (le-ltb n 0 zero-le)
-neg-less (suc m) zero = sym (lt-ltb 0 (suc m) (omega arith))
-neg-less (suc m) (suc n) = sym (leb-suc-suc (suc n) m)
+pub neg_less : (m n : ℕ) → lt_z (neg_ℤ (pos m)) (neg_ℤ (pos n)) ≡ ltb n m
+neg_less zero n = not_less 0 n ∙ sym (le-ltb n 0 zero-le)
+neg_less (suc m) zero = sym (lt-ltb 0 (suc m) (omega arith))
+neg_less (suc m) (suc n) = sym (leb-suc-suc (suc n) m)
 
-pub neg-le : (m n : ℕ) → le_z (neg_ℤ (pos m)) (neg_ℤ (pos n)) ≡ leb n m
-neg-le zero zero = refl
-neg-le zero (suc n) = sym (lt-leb (suc n) 0 (omega arith))
-neg-le (suc m) zero = sym (le-leb 0 (suc m) zero-le)
-neg-le (suc m) (suc n) = sym (leb-suc-suc n m)
+pub neg_le : (m n : ℕ) → le_z (neg_ℤ (pos m)) (neg_ℤ (pos n)) ≡ leb n m
+neg_le zero zero = refl
+neg_le zero (suc n) = sym (lt-leb (suc n) 0 (omega arith))
+neg_le (suc m) zero = sym (le-leb 0 (suc m) zero-le)
+neg_le (suc m) (suc n) = sym (leb-suc-suc n m)
 
-pub neg-le-pos : (m n : ℕ) → le_z (neg_ℤ (pos m)) (pos n) ≡ true
-neg-le-pos zero n = le-leb 0 n zero-le
-neg-le-pos (suc m) n = refl
+pub neg_le_pos : (m n : ℕ) → le_z (neg_ℤ (pos m)) (pos n) ≡ true
+neg_le_pos zero n = le-leb 0 n zero-le
+neg_le_pos (suc m) n = refl
 
 -- ---- settling
 
 -- every type fits in 32 bits
-pub under-small : (t : NumType) → under t ≤ 2147483648
-under-small Int16 = lit≤ tt
-under-small Uint16 = lit≤ tt
-under-small Int32 = lit≤ tt
-under-small Uint32 = lit≤ tt
+pub under_small : (t : NumType) → under t ≤ 2147483648
+under_small Int16 = lit≤ tt
+under_small Uint16 = lit≤ tt
+under_small Int32 = lit≤ tt
+under_small Uint32 = lit≤ tt
 
-pub over-small : (t : NumType) → over t < 4294967296
-over-small Int16 = lit< tt
-over-small Uint16 = lit< tt
-over-small Int32 = lit< tt
-over-small Uint32 = lit< tt
+pub over_small : (t : NumType) → over t < 4294967296
+over_small Int16 = lit< tt
+over_small Uint16 = lit< tt
+over_small Int32 = lit< tt
+over_small Uint32 = lit< tt
 
-pub word-neg : (m : ℕ) → m ≤ 4294967296 → word_of (neg_ℤ (pos m)) ≡ (4294967296 - m) % 4294967296
-word-neg zero h = refl
-word-neg (suc m) h = omega arith
+pub word_neg : (m : ℕ) → m ≤ 4294967296 → word_of (neg_ℤ (pos m)) ≡ (4294967296 - m) % 4294967296
+word_neg zero h = refl
+word_neg (suc m) h = omega arith
 
-pub settles-below : (t : NumType) (m : ℕ) → under t < m → Below ≡ settled t (neg_ℤ (pos m))
+pub settles_below : (t : NumType) (m : ℕ) → under t < m → Below ≡ settled t (neg_ℤ (pos m))
 unfolding settled
-settles-below t m h = rw (neg-less m (under t), lt-ltb (under t) m h)
+settles_below t m h = rw (neg_less m (under t), lt-ltb (under t) m h)
 
-pub settles-neg : (t : NumType) (m : ℕ) → m ≤ under t → Value ((4294967296 - m) % 4294967296)
+pub settles_neg : (t : NumType) (m : ℕ) → m ≤ under t → Value ((4294967296 - m) % 4294967296)
     ≡ settled t (neg_ℤ (pos m))
 unfolding settled
-settles-neg t m h =
-    rw (neg-less m (under t), le-ltb (under t) m h, not-less (over t) m)
-    (ap Value (sym (word-neg m (omega (arith, under-small t)))))
+settles_neg t m h =
+    rw (neg_less m (under t), le-ltb (under t) m h, not_less (over t) m)
+    (ap Value (sym (word_neg m (omega (arith, under_small t)))))
 
-pub settles-above : (t : NumType) (m : ℕ) → over t < m → Above ≡ settled t (pos m)
+pub settles_above : (t : NumType) (m : ℕ) → over t < m → Above ≡ settled t (pos m)
 unfolding settled
-settles-above t m h = rw (not-less m (under t), lt-ltb (over t) m h)
+settles_above t m h = rw (not_less m (under t), lt-ltb (over t) m h)
 
-pub settles-pos : (t : NumType) (m : ℕ) → m ≤ over t → Value m ≡ settled t (pos m)
+pub settles_pos : (t : NumType) (m : ℕ) → m ≤ over t → Value m ≡ settled t (pos m)
 unfolding settled
-settles-pos t m h = rw (not-less m (under t), le-ltb (over t) m h)
+settles_pos t m h = rw (not_less m (under t), le-ltb (over t) m h)
 
 -- ---- quotients
 
 -- 0 by d is 0, however it is rounded
-zero-by : (r : Rounding) (n : Bool) (j : ℕ) → roundedDiv r n 0 (suc j) ≡ pos 0
-unfolding roundedDiv
-zero-by Floor true j = rw (zero-div (suc j))
-zero-by Floor false j = rw (zero-div (suc j))
-zero-by Ceil true j = rw (zero-div (suc j))
-zero-by Ceil false j = rw (zero-div (suc j), zero-mod (suc j))
-zero-by Round true j = rw (zero-div (suc j), zero-mod (suc j), lt-leb (suc j - 0) 0 (omega arith))
-zero-by Round false j = rw (zero-div (suc j), zero-mod (suc j), lt-leb (suc j - 0) 0 (omega arith))
+zero_by : (r : Rounding) (n : Bool) (j : ℕ) → rounded_div r n 0 (suc j) ≡ pos 0
+unfolding rounded_div
+zero_by Floor true j = rw (zero-div (suc j))
+zero_by Floor false j = rw (zero-div (suc j))
+zero_by Ceil true j = rw (zero-div (suc j))
+zero_by Ceil false j = rw (zero-div (suc j), zero-mod (suc j))
+zero_by Round true j = rw (zero-div (suc j), zero-mod (suc j), lt-leb (suc j - 0) 0 (omega arith))
+zero_by Round false j = rw (zero-div (suc j), zero-mod (suc j), lt-leb (suc j - 0) 0 (omega arith))
 
-pub sgn-div : (r : Rounding) (s t : Bool) (m d : ℕ) → 0 < d →
-    roundedDiv r (differ s t) m d ≡ quotient r (sgn s m) (sgn t d)
+pub sgn_div : (r : Rounding) (s t : Bool) (m d : ℕ) → 0 < d →
+    rounded_div r (differ s t) m d ≡ quotient r (sgn s m) (sgn t d)
 unfolding quotient
-sgn-div r s t m zero h = absurd (not-suc-le-zero h)
-sgn-div r false false m (suc j) h = rw (eqb-suc-zero j)
-sgn-div r false true m (suc j) h = rw (eqb-suc-zero j)
-sgn-div r true false zero (suc j) h = rw (eqb-suc-zero j) (zero-by r true j ∙ sym (zero-by r false j))
-sgn-div r true false (suc m) (suc j) h = rw (eqb-suc-zero j)
-sgn-div r true true zero (suc j) h = rw (eqb-suc-zero j) (zero-by r false j ∙ sym (zero-by r true j))
-sgn-div r true true (suc m) (suc j) h = rw (eqb-suc-zero j)
+sgn_div r s t m zero h = absurd (not-suc-le-zero h)
+sgn_div r false false m (suc j) h = rw (eqb-suc-zero j)
+sgn_div r false true m (suc j) h = rw (eqb-suc-zero j)
+sgn_div r true false zero (suc j) h = rw (eqb-suc-zero j) (zero_by r true j ∙ sym (zero_by r false j))
+sgn_div r true false (suc m) (suc j) h = rw (eqb-suc-zero j)
+sgn_div r true true zero (suc j) h = rw (eqb-suc-zero j) (zero_by r false j ∙ sym (zero_by r true j))
+sgn_div r true true (suc m) (suc j) h = rw (eqb-suc-zero j)
 
 pub by_zero : (r : Rounding) (a : ℤ) (t : Bool) → pos 0 ≡ quotient r a (sgn t 0)
 unfolding quotient
 by_zero r a false = refl
 by_zero r a true = refl
 
-pub rounded-up : (r : Rounding) (n : Bool) (m d : ℕ) → away r n (m % d) d ≡ true →
-    sgn n (m / d + 1) ≡ roundedDiv r n m d
-unfolding roundedDiv
-rounded-up r n m d e = rw e
+pub rounded_up : (r : Rounding) (n : Bool) (m d : ℕ) → away r n (m % d) d ≡ true →
+    sgn n (m / d + 1) ≡ rounded_div r n m d
+unfolding rounded_div
+rounded_up r n m d e = rw e
 
-pub rounded-cut : (r : Rounding) (n : Bool) (m d : ℕ) → away r n (m % d) d ≡ false →
-    sgn n (m / d) ≡ roundedDiv r n m d
-unfolding roundedDiv
-rounded-cut r n m d e = rw (e, add-zero (m / d))
+pub rounded_cut : (r : Rounding) (n : Bool) (m d : ℕ) → away r n (m % d) d ≡ false →
+    sgn n (m / d) ≡ rounded_div r n m d
+unfolding rounded_div
+rounded_cut r n m d e = rw (e, add-zero (m / d))

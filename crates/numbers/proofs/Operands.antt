@@ -9,10 +9,10 @@ use Rattle.numbers.specs.declared.Op.{Op}
 use Rattle.numbers.specs.declared.Outcome.{Outcome}
 use Rattle.numbers.specs.declared.Signed.{Signed}
 use Rattle.numbers.proofs.Laws.{loaded}
-use Rattle.numbers.proofs.Range.{value-small}
+use Rattle.numbers.proofs.Range.{value_small}
 
 pub small : (t : NumType) (w : ℕ) {x : Signed} → x ≡ signed (value t w) → w < 2 ^ 32 → x.mag < 2 ^ 32
-small t w e l = rw e (value-small t w l)
+small t w e l = rw e (value_small t w l)
 
 pub settles : (op : Op) (ta : NumType) (a : ℕ) (tb : NumType) (b : ℕ) (t : NumType) (r : Signed) {x y : Signed}
     {o : Outcome} → x ≡ signed (value ta a) → y ≡ signed (value tb b) → z_of r ≡ exact op (z_of x) (z_of y) →

@@ -12,8 +12,8 @@ use borrow.Author.Tests.{le-leb, lt-leb, leb-true, leb-false}
 use lib.Dec.{T, leb, leb→le}
 use lib.IntN.{ℤ, pos, negsuc, neg_ℤ, nat_abs, sub_ℕ}
 use lib.Signed.{lt_z, le_z, lt_z_no, lt_z_yes, le_z_yes, clash_ℤ, ◌≤ℤ◌, ◌<ℤ◌}
-use Rattle.numbers.proofs.Laws.{sub-lt, abs-sgn, under-small, over-small, neg-le, neg-le-pos, not-less}
-use Rattle.numbers.proofs.Laws.{word-neg}
+use Rattle.numbers.proofs.Laws.{sub_lt, abs_sgn, under_small, over_small, neg_le, neg_le_pos, not_less}
+use Rattle.numbers.proofs.Laws.{word_neg}
 use Rattle.numbers.specs.Types.{is_signed, lo, hi, under, over, value, inside, word_of}
 use Rattle.numbers.specs.Results.{exact, settled, outcome}
 use Rattle.numbers.specs.declared.NumType.{NumType}
@@ -25,19 +25,19 @@ use Rattle.numbers.specs.declared.Outcome.TheVariants.{Below, Above, Value}
 -- ---- the type's reach and 2 ^ 31
 
 -- the words that stand for themselves: those of a type with no numbers below 0, and those below 2 ^ 31
-stands-low : (t : NumType) (w : ℕ) → w < 4294967296 → is_signed t && leb 2147483648 w ≡ false →
+stands_low : (t : NumType) (w : ℕ) → w < 4294967296 → is_signed t && leb 2147483648 w ≡ false →
     w + under t < 4294967296
-stands-low Int16 w h e = omega (arith, leb-false 2147483648 w e)
-stands-low Uint16 w h e = omega arith
-stands-low Int32 w h e = omega (arith, leb-false 2147483648 w e)
-stands-low Uint32 w h e = omega arith
+stands_low Int16 w h e = omega (arith, leb-false 2147483648 w e)
+stands_low Uint16 w h e = omega arith
+stands_low Int32 w h e = omega (arith, leb-false 2147483648 w e)
+stands_low Uint32 w h e = omega arith
 
 -- the others are past the type's greatest number
-stands-high : (t : NumType) (w : ℕ) → is_signed t && leb 2147483648 w ≡ true → over t < w
-stands-high Int16 w e = omega (arith, leb-true 2147483648 w e)
-stands-high Uint16 w e = let x : ◌≡◌ {A = ℕ} 0 1 = cc in absurd (omega arith)
-stands-high Int32 w e = omega (arith, leb-true 2147483648 w e)
-stands-high Uint32 w e = let x : ◌≡◌ {A = ℕ} 0 1 = cc in absurd (omega arith)
+stands_high : (t : NumType) (w : ℕ) → is_signed t && leb 2147483648 w ≡ true → over t < w
+stands_high Int16 w e = omega (arith, leb-true 2147483648 w e)
+stands_high Uint16 w e = let x : ◌≡◌ {A = ℕ} 0 1 = cc in absurd (omega arith)
+stands_high Int32 w e = omega (arith, leb-true 2147483648 w e)
+stands_high Uint32 w e = let x : ◌≡◌ {A = ℕ} 0 1 = cc in absurd (omega arith)
 
 -- ---- from a word to its number and back
 
@@ -57,25 +57,25 @@ by_word P t w h p q = pick (is_signed t && leb 2147483648 w) refl
   where
     pick : (b : Bool) → is_signed t && leb 2147483648 w ≡ b → P (cond b (sub_ℕ w 4294967296) (pos w))
     pick false e = p
-    pick true e = rw (sub-lt h) (q (leb-true 2147483648 w (and_right (is_signed t) (leb 2147483648 w) e)))
+    pick true e = rw (sub_lt h) (q (leb-true 2147483648 w (and_right (is_signed t) (leb 2147483648 w) e)))
 
 -- the magnitude of a word's number is below 2 ^ 32
-pub value-small : (t : NumType) (w : ℕ) → w < 2 ^ 32 → nat_abs (value t w) < 2 ^ 32
-value-small t w h =
-    by_word (λ (z : ℤ). nat_abs z < 4294967296) t w h h (λ k. rw (abs-sgn true (4294967296 - w)) (omega arith))
+pub value_small : (t : NumType) (w : ℕ) → w < 2 ^ 32 → nat_abs (value t w) < 2 ^ 32
+value_small t w h =
+    by_word (λ (z : ℤ). nat_abs z < 4294967296) t w h h (λ k. rw (abs_sgn true (4294967296 - w)) (omega arith))
 
 -- a word stores its own number
-pub value-word : (t : NumType) (w : ℕ) → w < 2 ^ 32 → word_of (value t w) ≡ w
-value-word t w h =
+pub value_word : (t : NumType) (w : ℕ) → w < 2 ^ 32 → word_of (value t w) ≡ w
+value_word t w h =
     by_word (λ (z : ℤ). word_of z ≡ w) t w h refl
-    (λ k. word-neg (4294967296 - w) (omega arith) ∙ omega arith)
+    (λ k. word_neg (4294967296 - w) (omega arith) ∙ omega arith)
 
 -- ---- from a number to its word and back
 
 back : (n : ℕ) → suc n ≤ 2147483648 → sub_ℕ (4294967296 - suc n) 4294967296 ≡ negsuc n
 back n h =
     let e : 4294967296 - (4294967296 - suc n) ≡ suc n = omega arith in
-    sub-lt {a = 4294967296 - suc n} {b = 4294967296} (omega arith) ∙ rw e
+    sub_lt {a = 4294967296 - suc n} {b = 4294967296} (omega arith) ∙ rw e
 
 up : (t : NumType) (n : ℕ) → n ≤ over t → value t n ≡ pos n
 unfolding value
@@ -83,7 +83,7 @@ up t n h = pick (is_signed t && leb 2147483648 n) refl
   where
     pick : (b : Bool) → is_signed t && leb 2147483648 n ≡ b → cond b (sub_ℕ n 4294967296) (pos n) ≡ pos n
     pick false e = refl
-    pick true e = absurd (omega (arith, stands-high t n e))
+    pick true e = absurd (omega (arith, stands_high t n e))
 
 down : (t : NumType) (n : ℕ) → suc n ≤ under t → value t (4294967296 - suc n) ≡ negsuc n
 unfolding value
@@ -93,16 +93,16 @@ down t n h = pick (is_signed t && leb 2147483648 (4294967296 - suc n)) refl
     w = 4294967296 - suc n
 
     pick : (b : Bool) → is_signed t && leb 2147483648 w ≡ b → cond b (sub_ℕ w 4294967296) (pos w) ≡ negsuc n
-    pick true e = back n (omega (arith, under-small t))
-    pick false e = absurd (omega (arith, under-small t, stands-low t w (omega arith) e))
+    pick true e = back n (omega (arith, under_small t))
+    pick false e = absurd (omega (arith, under_small t, stands_low t w (omega arith) e))
 
 -- what the type holds comes back from its word
 pub word_value : (t : NumType) (z : ℤ) → lo t ≤ℤ z → z ≤ℤ hi t → value t (word_of z) ≡ z
 word_value t (pos n) l h = up t n (leb→le n (over t) h.le)
-word_value t (negsuc n) l h = down t n (leb→le (suc n) (under t) (subst T (neg-le (under t) (suc n)) l.le))
+word_value t (negsuc n) l h = down t n (leb→le (suc n) (under t) (subst T (neg_le (under t) (suc n)) l.le))
 
 word_small : (t : NumType) (z : ℤ) → z ≤ℤ hi t → word_of z < 4294967296
-word_small t (pos n) h = let k = leb→le n (over t) h.le in omega (arith, over-small t)
+word_small t (pos n) h = let k = leb→le n (over t) h.le in omega (arith, over_small t)
 word_small t (negsuc n) h = omega arith
 
 -- what is known of the word w that stores z in type t
@@ -119,9 +119,9 @@ is_false : (b : Bool) → (T b → ⊥) → b ≡ false
 is_false true p = absurd (p tt)
 is_false false p = refl
 
-pub stored-word : (t : NumType) (z : ℤ) → lo t ≤ℤ z → z ≤ℤ hi t → Stored t z (word_of z)
+pub stored_word : (t : NumType) (z : ℤ) → lo t ≤ℤ z → z ≤ℤ hi t → Stored t z (word_of z)
 unfolding inside
-stored-word t z l h =
+stored_word t z l h =
     let e = word_value t z l h in
     record {
       whole = e;
@@ -134,24 +134,24 @@ stored-word t z l h =
 less : {a b : ℤ} → a <ℤ b → lt_z a b ≡ true
 less {a} {b} h = is_true (lt_z a b) h.lt
 
-not-less-than : {a b : ℤ} → b ≤ℤ a → lt_z a b ≡ false
-not-less-than {a} {b} h = is_false (lt_z a b) (λ p. clash_ℤ {a = a} {b = b} (lt_z_yes p) h)
+not_less_than : {a b : ℤ} → b ≤ℤ a → lt_z a b ≡ false
+not_less_than {a} {b} h = is_false (lt_z a b) (λ p. clash_ℤ {a = a} {b = b} (lt_z_yes p) h)
 
 -- what is below the type is Below
-pub settled-below : (t : NumType) (z : ℤ) → z <ℤ lo t → settled t z ≡ Below
+pub settled_below : (t : NumType) (z : ℤ) → z <ℤ lo t → settled t z ≡ Below
 unfolding settled
-settled-below t z l = rw (less l)
+settled_below t z l = rw (less l)
 
 -- what is above the type is Above
-pub settled-above : (t : NumType) (z : ℤ) → hi t <ℤ z → settled t z ≡ Above
+pub settled_above : (t : NumType) (z : ℤ) → hi t <ℤ z → settled t z ≡ Above
 unfolding settled
-settled-above t (pos n) h = rw (not-less n (under t), less h)
-settled-above t (negsuc n) h = absurd h.lt
+settled_above t (pos n) h = rw (not_less n (under t), less h)
+settled_above t (negsuc n) h = absurd h.lt
 
 -- what the type holds is stored
 pub settled-inside : (t : NumType) (z : ℤ) → lo t ≤ℤ z → z ≤ℤ hi t → settled t z ≡ Value (word_of z)
 unfolding settled
-settled-inside t z l h = rw (not-less-than l, not-less-than h)
+settled-inside t z l h = rw (not_less_than l, not_less_than h)
 
 -- where a number stands, by its outcome
 data Place (t : NumType) (z : ℤ) : Outcome → Type 0 where
@@ -170,15 +170,15 @@ placed t z = pick (lt_z z (lo t)) (lt_z (hi t) z) refl refl
     pick false false p q = within (lt_z_no (rw p tt)) (lt_z_no (rw q tt))
 
 -- and nothing else is Below
-pub below-only : (t : NumType) (z : ℤ) → settled t z ≡ Below → z <ℤ lo t
-below-only t z e = at (subst (Place t z) e (placed t z))
+pub below_only : (t : NumType) (z : ℤ) → settled t z ≡ Below → z <ℤ lo t
+below_only t z e = at (subst (Place t z) e (placed t z))
   where
     at : Place t z Below → z <ℤ lo t
     at (below h) = h
 
 -- and nothing else is Above
-pub above-only : (t : NumType) (z : ℤ) → settled t z ≡ Above → hi t <ℤ z
-above-only t z e = at (subst (Place t z) e (placed t z))
+pub above_only : (t : NumType) (z : ℤ) → settled t z ≡ Above → hi t <ℤ z
+above_only t z e = at (subst (Place t z) e (placed t z))
   where
     at : Place t z Above → hi t <ℤ z
     at (above h) = h
@@ -188,7 +188,7 @@ pub settled-value : (t : NumType) (z : ℤ) (w : ℕ) → settled t z ≡ Value 
 settled-value t z w e = at w (subst (Place t z) e (placed t z))
   where
     at : (w : ℕ) → Place t z (Value w) → Stored t z w
-    at w (within l h) = stored-word t z l h
+    at w (within l h) = stored_word t z l h
 
 -- the same of a block's result
 pub outcome-value : (op : Op) (ta : NumType) (a : ℕ) (tb : NumType) (b : ℕ) (t : NumType) (w : ℕ) →
@@ -198,16 +198,16 @@ outcome-value op ta a tb b t w e = settled-value t (exact op (value ta a) (value
 
 -- ---- well-formed words
 
-same-side : (a b c d : ℕ) → (a ≤ b → c ≤ d) → (b < a → d < c) → leb a b ≡ leb c d
-same-side a b c d p q = go (dec_le a b)
+same_side : (a b c d : ℕ) → (a ≤ b → c ≤ d) → (b < a → d < c) → leb a b ≡ leb c d
+same_side a b c d p q = go (dec_le a b)
   where
     go : Dec (a ≤ b) → leb a b ≡ leb c d
     go (yes l) = le-leb a b l ∙ sym (le-leb c d (p l))
     go (no n) = let l = lt_of_not-le n in lt-leb a b l ∙ sym (lt-leb c d (q l))
 
-and-true : (b : Bool) → b && true ≡ b
-and-true true = refl
-and-true false = refl
+and_true : (b : Bool) → b && true ≡ b
+and_true true = refl
+and_true false = refl
 
 -- The law of a type's words: counted from the word of the least number, and round 2 ^ 32, they are the first ones, as
 -- many as the type has numbers.
@@ -221,33 +221,33 @@ words_of t w h = pick (is_signed t && leb 2147483648 w) refl
     pick : (b : Bool) → is_signed t && leb 2147483648 w ≡ b →
         leb ((w + under t) % 4294967296) (under t + over t) ≡ le_z (lo t) (z b) && le_z (z b) (hi t)
     pick false e =
-        let l = stands-low t w h e in
-        rw (neg-le-pos (under t) w)
-        (same-side ((w + under t) % 4294967296) (under t + over t) w (over t) (λ k. omega arith) (λ k. omega arith))
+        let l = stands_low t w h e in
+        rw (neg_le_pos (under t) w)
+        (same_side ((w + under t) % 4294967296) (under t + over t) w (over t) (λ k. omega arith) (λ k. omega arith))
     pick true e =
-        let o = stands-high t w e in
+        let o = stands_high t w e in
         let m = 4294967296 - w in
-        rw (sub-lt h, neg-le (under t) m, neg-le-pos m (over t), and-true (leb m (under t)))
-        (same-side ((w + under t) % 4294967296) (under t + over t) m (under t)
-        (λ k. omega (arith, under-small t)) (λ k. omega (arith, under-small t)))
+        rw (sub_lt h, neg_le (under t) m, neg_le_pos m (over t), and_true (leb m (under t)))
+        (same_side ((w + under t) % 4294967296) (under t + over t) m (under t)
+        (λ k. omega (arith, under_small t)) (λ k. omega (arith, under_small t)))
 
 -- a well-formed word's number is stored as that word
-pub stored-again : (t : NumType) (w : ℕ) → inside t w ≡ true → w < 2 ^ 32 → settled t (value t w) ≡ Value w
+pub stored_again : (t : NumType) (w : ℕ) → inside t w ≡ true → w < 2 ^ 32 → settled t (value t w) ≡ Value w
 unfolding inside
-stored-again t w f h =
+stored_again t w f h =
     let z = value t w in
     let l : lo t ≤ℤ z = le_z_yes (rw (and_left (le_z (lo t) z) (le_z z (hi t)) f) tt) in
     let u : z ≤ℤ hi t = le_z_yes (rw (and_right (le_z (lo t) z) (le_z z (hi t)) f) tt) in
-    settled-inside t z l u ∙ ap Value (value-word t w h)
+    settled-inside t z l u ∙ ap Value (value_word t w h)
 
 -- 0 and 1 are numbers of every type
-one-over : (t : NumType) → 1 ≤ over t
-one-over Int16 = omega arith
-one-over Uint16 = omega arith
-one-over Int32 = omega arith
-one-over Uint32 = omega arith
+one_over : (t : NumType) → 1 ≤ over t
+one_over Int16 = omega arith
+one_over Uint16 = omega arith
+one_over Int32 = omega arith
+one_over Uint32 = omega arith
 
-pub bit-inside : (t : NumType) (w : ℕ) → w ≤ 1 → inside t w ≡ true
-bit-inside t w l =
+pub bit_inside : (t : NumType) (w : ℕ) → w ≤ 1 → inside t w ≡ true
+bit_inside t w l =
     sym (words_of t w (omega arith))
-    ∙ le-leb ((w + under t) % 4294967296) (under t + over t) (omega (arith, under-small t, one-over t))
+    ∙ le-leb ((w + under t) % 4294967296) (under t + over t) (omega (arith, under_small t, one_over t))

@@ -4,7 +4,7 @@
 -- reach. 001, 4.16 to 4.19, and where it is silent 01, "Arithmetic.". Assumes nothing.
 use Rattle.std.specs.Prelude.{ℕ, ◌+◌, ◌-◌, ◌/◌, ◌%◌, Bool, true, false, cond, not, ◌&&◌, ltb, leb, eqb, ℤ, pos, nat_abs, ◌+ℤ◌, ◌-ℤ◌, ◌*ℤ◌}
 use Rattle.std.specs.Int.Signed.{lt_z}
-use Rattle.numbers.specs.Types.{lo, hi, value, word_of, sgn, isNeg}
+use Rattle.numbers.specs.Types.{lo, hi, value, word_of, sgn, is_neg}
 use Rattle.numbers.specs.declared.NumType.{NumType}
 use Rattle.numbers.specs.declared.Rounding.{Rounding}
 use Rattle.numbers.specs.declared.Rounding.TheVariants.{Floor, Ceil, Round}
@@ -33,14 +33,14 @@ away Round neg remainder divisor = leb (divisor - remainder) remainder
 
 -- The rounded quotient of a dividend and a divisor without their signs; neg: they have different ones. 01,
 -- "Arithmetic.".
-unfoldable pub roundedDiv : Rounding → Bool → ℕ → ℕ → ℤ
-roundedDiv r neg dividend divisor = sgn neg (dividend / divisor + cond (away r neg (dividend % divisor) divisor) 1 0)
+unfoldable pub rounded_div : Rounding → Bool → ℕ → ℕ → ℤ
+rounded_div r neg dividend divisor = sgn neg (dividend / divisor + cond (away r neg (dividend % divisor) divisor) 1 0)
 
 -- a by b, rounded, and 0 where b is 0. 001, 4.19.1: "Ist der Eingang AnalogIn2 = 0 wird der Ausgang AnalogOut auf 0
 -- gesetzt. In diesem Fall wird kein Fehler ausgegeben."; 01, "Arithmetic.".
 unfoldable pub quotient : Rounding → ℤ → ℤ → ℤ
 quotient r a b =
-    cond (eqb (nat_abs b) 0) (pos 0) (roundedDiv r (differ (isNeg a) (isNeg b)) (nat_abs a) (nat_abs b))
+    cond (eqb (nat_abs b) 0) (pos 0) (rounded_div r (differ (is_neg a) (is_neg b)) (nat_abs a) (nat_abs b))
 
 -- ---- the result
 
@@ -65,8 +65,8 @@ outcome op ta a tb b t = settled t (exact op (value ta a) (value tb b))
 
 -- The rounding that a parameter byte names: 0 floor, 1 ceil, 2 round. The check of the file turns others down, so what
 -- they read as is without effect. 01, "The case file".
-unfoldable pub roundingOf : ℕ → Rounding
-roundingOf b = cond (eqb b 0) Floor (cond (eqb b 1) Ceil Round)
+unfoldable pub rounding_of : ℕ → Rounding
+rounding_of b = cond (eqb b 0) Floor (cond (eqb b 1) Ceil Round)
 
 -- The diagnosis: 1 below, 2 above, 0 where the output is right. 01, "Arithmetic."; 001, 4.16.2, 4.17.2, 4.18.2, 4.19.2.
 abbrev pub diagnosis : Outcome → ℕ

@@ -73,10 +73,10 @@ abbrev pub z_of : Signed → ℤ
 z_of s = sgn s.neg s.mag
 
 -- Whether a number is below 0. General.
-abbrev pub isNeg : ℤ → Bool
-isNeg (pos n) = false
-isNeg (negsuc n) = true
+abbrev pub is_neg : ℤ → Bool
+is_neg (pos n) = false
+is_neg (negsuc n) = true
 
 -- The sign and the magnitude of a number; 0 has no sign. General.
 abbrev pub signed : ℤ → Signed
-signed z = record { neg = isNeg z; mag = nat_abs z }
+signed z = record { neg = is_neg z; mag = nat_abs z }

@@ -5,7 +5,7 @@ ghost use Rattle.std.specs.Prelude.{◌≡◌, ◌^◌, ◌<◌, ◌+ℤ◌, ◌
 ghost use Rattle.std.proofs.Math.IntN.{sub_ℕ};
 ghost use Rattle.numbers.specs.Types.{is_signed, under, over, value, inside, type_of, signed, z_of};
 ghost use Rattle.numbers.specs.Results.{differ, away, quotient as quotient_of, settled, outcome};
-ghost use Rattle.numbers.specs.Results.{roundingOf, text_of};
+ghost use Rattle.numbers.specs.Results.{rounding_of, text_of};
 ghost use Rattle.numbers.specs.declared.Op.TheVariants.{Add, Sub, Mul, Div};
 
 // The type of an input or an output.
@@ -318,7 +318,7 @@ pub fn type_of(b: u8) -> NumType
 
 // The rounding that a parameter byte names.
 pub fn rounding_of(b: u8) -> Rounding
-    ensures { result ≡ roundingOf b }
+    ensures { result ≡ rounding_of b }
 {
     match b {
         0 => Rounding::Floor,

@@ -3,53 +3,53 @@ use Rattle.wire.proofs.Usual.{◌≡◌, refl, ap, Bool, true, false, cond, ◌&
 use borrow.Author.Tests.{le-leb, lt-leb}
 use lib.Dec.{leb}
 use Rattle.project.specs.declared.Counts.{Counts}
-use Rattle.project.specs.Project.{device, groupCount, inputCount, blockCount, outputCount, recordSize, fileMost}
-use Rattle.project.specs.Project.{sizeCounted, countsOf}
+use Rattle.project.specs.Project.{device, group_count, input_count, block_count, output_count, record_size, file_most}
+use Rattle.project.specs.Project.{size_counted, counts_of}
 
 module _ (G I : List ℕ) where
   -- bodies that are too long, and bodies that are not
-  pub groups-too-long : fileMost < length G → 0 ≡ sizeCounted G I
-  unfolding sizeCounted
-  groups-too-long l = rw (lt-leb (length G) fileMost l)
+  pub groups-too-long : file_most < length G → 0 ≡ size_counted G I
+  unfolding size_counted
+  groups-too-long l = rw (lt-leb (length G) file_most l)
 
-  pub inputs-too-long : fileMost < length I → 0 ≡ sizeCounted G I
-  unfolding sizeCounted
-  inputs-too-long l = rw (lt-leb (length I) fileMost l) (go (leb (length G) fileMost))
+  pub inputs-too-long : file_most < length I → 0 ≡ size_counted G I
+  unfolding size_counted
+  inputs-too-long l = rw (lt-leb (length I) file_most l) (go (leb (length G) file_most))
     where
-      go : (b : Bool) → 0 ≡ cond (b && false) (recordSize G I) 0
+      go : (b : Bool) → 0 ≡ cond (b && false) (record_size G I) 0
       go true = refl
       go false = refl
 
-  pub size-counted : length G ≤ fileMost → length I ≤ fileMost → sizeCounted G I ≡ recordSize G I
-  unfolding sizeCounted
-  size-counted l m = rw (le-leb (length G) fileMost l, le-leb (length I) fileMost m)
+  pub size-counted : length G ≤ file_most → length I ≤ file_most → size_counted G I ≡ record_size G I
+  unfolding size_counted
+  size-counted l m = rw (le-leb (length G) file_most l, le-leb (length I) file_most m)
 
   -- so it is for the bodies of an accepted file
-  pub size_few : groupCount G ≤ 8 → inputCount I ≤ 128 → sizeCounted G I ≡ recordSize G I
-  unfolding groupCount inputCount
+  pub size_few : group_count G ≤ 8 → input_count I ≤ 128 → size_counted G I ≡ record_size G I
+  unfolding group_count input_count
   size_few l m = size-counted (omega arith) (omega arith)
 
-module _ (G I B O : List ℕ) {c : Counts} (e : c ≡ countsOf G I B O) where
+module _ (G I B O : List ℕ) {c : Counts} (e : c ≡ counts_of G I B O) where
   pub is-device : c.device ≡ device G
-  unfolding countsOf
+  unfolding counts_of
   is-device = ap (λ (x : Counts). x.device) e
 
-  pub is-groups : c.groups ≡ groupCount G
-  unfolding countsOf
+  pub is-groups : c.groups ≡ group_count G
+  unfolding counts_of
   is-groups = ap (λ (x : Counts). x.groups) e
 
-  pub is-inputs : c.inputs ≡ inputCount I
-  unfolding countsOf
+  pub is-inputs : c.inputs ≡ input_count I
+  unfolding counts_of
   is-inputs = ap (λ (x : Counts). x.inputs) e
 
-  pub is-blocks : c.blocks ≡ blockCount B
-  unfolding countsOf
+  pub is-blocks : c.blocks ≡ block_count B
+  unfolding counts_of
   is-blocks = ap (λ (x : Counts). x.blocks) e
 
-  pub is-outputs : c.outputs ≡ outputCount O
-  unfolding countsOf
+  pub is-outputs : c.outputs ≡ output_count O
+  unfolding counts_of
   is-outputs = ap (λ (x : Counts). x.outputs) e
 
-  pub is-size : c.size ≡ sizeCounted G I
-  unfolding countsOf
+  pub is-size : c.size ≡ size_counted G I
+  unfolding counts_of
   is-size = ap (λ (x : Counts). x.size) e

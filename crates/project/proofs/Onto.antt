@@ -1,9 +1,9 @@
 -- Numbers below n, at n places, no two alike: each number below n stands at one of the places, the first of which is
--- found by `firstBad`. Assumes nothing.
+-- found by `first_bad`. Assumes nothing.
 use Rattle.wire.proofs.Usual.{◌≡◌, Bool, true, cond, not, ℕ, zero, suc, ◌-◌, ◌<◌, ◌≤◌, dec_lt, arith, eqb-true}
 use Rattle.wire.proofs.Usual.{lt-ltb, not-true, eqb, ltb}
 use borrow.Author.Tests.{eqb-false, le-ltb, not-false}
-use Rattle.wire.specs.Places.{firstBad}
+use Rattle.wire.specs.Places.{first_bad}
 use Rattle.wire.proofs.Places.{found}
 
 -- the n values of f from 0 on are below m, and no two are alike
@@ -28,25 +28,25 @@ squeezed v x = go (dec_lt v x)
     go (yes l) = rw (lt-ltb v x l) (down l)
     go (no h) = rw (le-ltb v x (omega (arith, h))) (same (omega (arith, h)))
 
-squeeze-lt : {m v x s : ℕ} → Squeezed v x s → x < suc m → v < suc m → (x ≡ v → ⊥) → s < m
-squeeze-lt (down l) a b h = omega arith
-squeeze-lt (same l) a b h = omega (arith, h)
+squeeze_lt : {m v x s : ℕ} → Squeezed v x s → x < suc m → v < suc m → (x ≡ v → ⊥) → s < m
+squeeze_lt (down l) a b h = omega arith
+squeeze_lt (same l) a b h = omega (arith, h)
 
-squeeze-inj : {v x y s t : ℕ} → Squeezed v x s → Squeezed v y t → (x ≡ v → ⊥) →
+squeeze_inj : {v x y s t : ℕ} → Squeezed v x s → Squeezed v y t → (x ≡ v → ⊥) →
     (y ≡ v → ⊥) → s ≡ t → x ≡ y
-squeeze-inj (down a) (down b) h k e = omega arith
-squeeze-inj (down a) (same b) h k e = absurd (k (omega arith))
-squeeze-inj (same a) (down b) h k e = absurd (h (omega arith))
-squeeze-inj (same a) (same b) h k e = e
+squeeze_inj (down a) (down b) h k e = omega arith
+squeeze_inj (down a) (same b) h k e = absurd (k (omega arith))
+squeeze_inj (same a) (down b) h k e = absurd (h (omega arith))
+squeeze_inj (same a) (same b) h k e = e
 
 -- taken out of f's values a number that none of them is
 module _ {f : ℕ → ℕ} {n m : ℕ} (v : ℕ) (i : Apart f n (suc m)) (l : v < suc m)
     (h : (a : ℕ) → a < n → f a ≡ v → ⊥) where
   without : Apart (λ (a : ℕ). squeeze v (f a)) n m
   without = record {
-    below = λ a q. squeeze-lt (squeezed v (f a)) (i.below a q) l (h a q);
+    below = λ a q. squeeze_lt (squeezed v (f a)) (i.below a q) l (h a q);
     other = λ a b q r e.
-        i.other a b q r (squeeze-inj (squeezed v (f a)) (squeezed v (f b)) (h a (omega arith)) (h b r) e);
+        i.other a b q r (squeeze_inj (squeezed v (f a)) (squeezed v (f b)) (h a (omega arith)) (h b r) e);
   }
 
 -- one place more than numbers
@@ -65,17 +65,17 @@ absent f (suc m) e i l h = none m (λ (a : ℕ). squeeze e (f a)) (without e i l
 
 -- the first place of e among the n values of f
 unfoldable pub place_of : (ℕ → ℕ) → ℕ → ℕ → ℕ
-place_of f n e = firstBad (λ (a : ℕ). not (eqb (f a) e)) n
+place_of f n e = first_bad (λ (a : ℕ). not (eqb (f a) e)) n
 
 module _ {f : ℕ → ℕ} {n : ℕ} (i : Apart f n n) (e : ℕ) (l : e < n) where
   pub place-lt : place_of f n e < n
   unfolding place_of
-  place-lt = go (dec_lt (firstBad p n) n)
+  place-lt = go (dec_lt (first_bad p n) n)
     where
       p : ℕ → Bool
       p a = not (eqb (f a) e)
 
-      go : Dec (firstBad p n < n) → firstBad p n < n
+      go : Dec (first_bad p n < n) → first_bad p n < n
       go (yes q) = q
       go (no q) =
           let w = found p n in

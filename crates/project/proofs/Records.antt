@@ -4,8 +4,8 @@ use Rattle.wire.proofs.Usual.{◌≡◌, sym, ap, ◌∙◌, List, [], ℕ, ◌+
 use Rattle.wire.proofs.Usual.{drop}
 use native.Mathlib.Nat.{mul_comm, mul-le-mul_left, mul-div-le, div-lt_iff_lt-mul, le_trans}
 use lib.Seq.{get_or-take, get_or-drop}
-use Rattle.wire.specs.Words.{byteAt}
-use Rattle.wire.proofs.Stores.{part-past}
+use Rattle.wire.specs.Words.{byte_at}
+use Rattle.wire.proofs.Stores.{part_past}
 use Rattle.project.specs.Project.{row_of}
 
 -- a record past the last whole one starts past the end, and one up to it does not
@@ -27,8 +27,8 @@ module _ (w k : ℕ) (s : List ℕ) where
 
   pub row-past : 0 < w → length s / w < k → [] ≡ row_of w k s
   unfolding row_of
-  row-past p l = sym (part-past s (w * k) w (omega (arith, past (length s) w k p l)))
+  row-past p l = sym (part_past s (w * k) w (omega (arith, past (length s) w k p l)))
 
-  pub row-byte : (j : ℕ) → j < w → byteAt (row_of w k s) j ≡ byteAt s (w * k + j)
+  pub row-byte : (j : ℕ) → j < w → byte_at (row_of w k s) j ≡ byte_at s (w * k + j)
   unfolding row_of
   row-byte j l = get_or-take w (drop (w * k) s) j 0 l ∙ get_or-drop (w * k) s j 0

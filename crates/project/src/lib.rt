@@ -2,12 +2,12 @@
 // records' fields, and how many there are; where a parameter byte stands is said in `kind`. Every function is total: a
 // byte past the end reads as 0, and a record past the end is empty.
 ghost use Rattle.std.specs.Prelude.{◌≡◌};
-ghost use Rattle.project.specs.Project.{row_of, device, groupCount, runLinked, inputSize, inputGroupIn};
-ghost use Rattle.project.specs.Project.{inputTypeIn};
-ghost use Rattle.project.specs.Project.{blockSize, kindIn, groupIn, order_in, zeroIn, parametersIn, linkKindIn};
-ghost use Rattle.project.specs.Project.{linkIndexIn, linkPortIn, link_in, outputSize, outputGroupIn};
-ghost use Rattle.project.specs.Project.{outputBlockIn};
-ghost use Rattle.project.specs.Project.{outputPortIn, sizeCounted, countsOf};
+ghost use Rattle.project.specs.Project.{row_of, device, group_count, run_linked, input_size, input_group_in};
+ghost use Rattle.project.specs.Project.{input_type_in};
+ghost use Rattle.project.specs.Project.{block_size, kind_in, group_in, order_in, zero_in, parameters_in, link_kind_in};
+ghost use Rattle.project.specs.Project.{link_index_in, link_port_in, link_in, output_size, output_group_in};
+ghost use Rattle.project.specs.Project.{output_block_in};
+ghost use Rattle.project.specs.Project.{output_port_in, size_counted, counts_of};
 
 // The sizes of the records of I, B and O; of the head of a cycle record, its elapsed time; and of a word in it.
 pub const INPUT_SIZE: usize = 2;
@@ -88,14 +88,14 @@ pub fn device_in(groups: &[u8]) -> u8
 }
 
 pub fn group_count(groups: &[u8]) -> usize
-    ensures { result ≡ groupCount groups.now }
+    ensures { result ≡ group_count groups.now }
 {
     let n = groups.len();
     if n == 0 { 0 } else { n - 1 }
 }
 
 pub fn run_linked(groups: &[u8], g: usize) -> u8
-    ensures { result ≡ runLinked groups.now g }
+    ensures { result ≡ run_linked groups.now g }
 {
     if groups.len() <= g {
         return 0;
@@ -105,7 +105,7 @@ pub fn run_linked(groups: &[u8], g: usize) -> u8
 
 // The size of a cycle record; 0 for bodies that no file has.
 fn size_counted(groups: &[u8], inputs: &[u8]) -> usize
-    ensures { result ≡ sizeCounted groups.now inputs.now }
+    ensures { result ≡ size_counted groups.now inputs.now }
 {
     if FILE_MOST < groups.len() {
         return 0;
@@ -117,7 +117,7 @@ fn size_counted(groups: &[u8], inputs: &[u8]) -> usize
 }
 
 pub fn counts_of(groups: &[u8], inputs: &[u8], blocks: &[u8], outputs: &[u8]) -> Counts
-    ensures { result ≡ countsOf groups.now inputs.now
+    ensures { result ≡ counts_of groups.now inputs.now
         blocks.now outputs.now }
 {
     Counts {
@@ -132,45 +132,45 @@ pub fn counts_of(groups: &[u8], inputs: &[u8], blocks: &[u8], outputs: &[u8]) ->
 
 // The records of I, B and O.
 pub fn input_record(inputs: &[u8], i: usize) -> &[u8]
-    ensures { result.now ≡ row_of inputSize i inputs.now }
+    ensures { result.now ≡ row_of input_size i inputs.now }
 {
     record_at(inputs, INPUT_SIZE, i)
 }
 
 pub fn block_record(blocks: &[u8], b: usize) -> &[u8]
-    ensures { result.now ≡ row_of blockSize b blocks.now }
+    ensures { result.now ≡ row_of block_size b blocks.now }
 {
     record_at(blocks, BLOCK_SIZE, b)
 }
 
 pub fn output_record(outputs: &[u8], o: usize) -> &[u8]
-    ensures { result.now ≡ row_of outputSize o outputs.now }
+    ensures { result.now ≡ row_of output_size o outputs.now }
 {
     record_at(outputs, OUTPUT_SIZE, o)
 }
 
 // The fields of an external input's record.
 pub fn input_group(r: &[u8]) -> u8
-    ensures { result ≡ inputGroupIn r.now }
+    ensures { result ≡ input_group_in r.now }
 {
     wire::byte(r, 0)
 }
 
 pub fn input_type(r: &[u8]) -> u8
-    ensures { result ≡ inputTypeIn r.now }
+    ensures { result ≡ input_type_in r.now }
 {
     wire::byte(r, 1)
 }
 
 // The fields of a block's record.
 pub fn kind_of(r: &[u8]) -> u8
-    ensures { result ≡ kindIn r.now }
+    ensures { result ≡ kind_in r.now }
 {
     wire::byte(r, 0)
 }
 
 pub fn group_of(r: &[u8]) -> u8
-    ensures { result ≡ groupIn r.now }
+    ensures { result ≡ group_in r.now }
 {
     wire::byte(r, 1)
 }
@@ -182,32 +182,32 @@ pub fn order_of(r: &[u8]) -> u8
 }
 
 pub fn zero_of(r: &[u8]) -> u8
-    ensures { result ≡ zeroIn r.now }
+    ensures { result ≡ zero_in r.now }
 {
     wire::byte(r, 3)
 }
 
 pub fn parameters_of(r: &[u8]) -> &[u8]
-    ensures { result.now ≡ parametersIn r.now }
+    ensures { result.now ≡ parameters_in r.now }
 {
     wire::part(r, PARAMETER_START, PARAMETERS)
 }
 
 // The three bytes of the link of an input port, and what they name.
 pub fn link_kind(r: &[u8], port: u8) -> u8
-    ensures { result ≡ linkKindIn r.now port }
+    ensures { result ≡ link_kind_in r.now port }
 {
     wire::byte(r, LINK_START + LINK_SIZE * (port as usize))
 }
 
 pub fn link_index(r: &[u8], port: u8) -> u8
-    ensures { result ≡ linkIndexIn r.now port }
+    ensures { result ≡ link_index_in r.now port }
 {
     wire::byte(r, LINK_START + LINK_SIZE * (port as usize) + 1)
 }
 
 pub fn link_port(r: &[u8], port: u8) -> u8
-    ensures { result ≡ linkPortIn r.now port }
+    ensures { result ≡ link_port_in r.now port }
 {
     wire::byte(r, LINK_START + LINK_SIZE * (port as usize) + 2)
 }
@@ -229,19 +229,19 @@ pub fn source_of(r: &[u8], port: u8) -> Source
 
 // The fields of an external output's record.
 pub fn output_group(r: &[u8]) -> u8
-    ensures { result ≡ outputGroupIn r.now }
+    ensures { result ≡ output_group_in r.now }
 {
     wire::byte(r, 0)
 }
 
 pub fn output_block(r: &[u8]) -> u8
-    ensures { result ≡ outputBlockIn r.now }
+    ensures { result ≡ output_block_in r.now }
 {
     wire::byte(r, 1)
 }
 
 pub fn output_port(r: &[u8]) -> u8
-    ensures { result ≡ outputPortIn r.now }
+    ensures { result ≡ output_port_in r.now }
 {
     wire::byte(r, 2)
 }

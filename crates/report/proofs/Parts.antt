@@ -6,14 +6,14 @@ use mathlib.Core.List.{append_assoc}
 use native.Mathlib.Nat.{add-zero, add-sub_cancel_left}
 use lib.ListN.{take-append-drop}
 use lib.Seq.{sets-eq, drop-drop, drop-append-le}
-use Rattle.report.specs.Lines.{lineMost, Printed, Put}
+use Rattle.report.specs.Lines.{line_most, Printed, Put}
 use Rattle.report.proofs.Puts.{◌then◌}
-use Rattle.report.proofs.Lines.{line-front}
+use Rattle.report.proofs.Lines.{line_front}
 
 -- what is stored at the front of the n bytes of a buffer from `at` on is stored in the buffer
-pub part-stored : (X Y v : List ℕ) (at n : ℕ) → at + n ≤ length X → length v ≤ n →
+pub part_stored : (X Y v : List ℕ) (at n : ℕ) → at + n ≤ length X → length v ≤ n →
     Y ≡ sets (take (at + n - at) (drop at X)) 0 v → put_mid at (at + n - at) X Y ≡ sets X at v
-part-stored X Y v at n l k e =
+part_stored X Y v at n l k e =
     (λ i. take at X ++ ((e ∙ part) i ++ post i))
     ∙ ap (λ (t : List ℕ). take at X ++ t)
     (append_assoc v (drop (length v) mid) (drop (at + n) X) ∙ ap (λ (t : List ℕ). v ++ t) rest)
@@ -44,27 +44,27 @@ part-stored X Y v at n l k e =
         ∙ drop-drop (length v) at X
 
 -- and the buffer stays as long
-pub part-long : (X Y : List ℕ) (at n : ℕ) → length Y ≡ length (take (at + n - at) (drop at X)) →
+pub part_long : (X Y : List ℕ) (at n : ℕ) → length Y ≡ length (take (at + n - at) (drop at X)) →
     length (put_mid at (at + n - at) X Y) ≡ length X
-part-long X Y at n e = same_len_mid at (at + n - at) X Y e
+part_long X Y at n e = same_len_mid at (at + n - at) X Y e
 
 -- no text
-pub put-none : {out : List ℕ} {at : ℕ} → Put [] out at out at
-put-none {out} {at} = record { bytes = refl; place = sym (add-zero at) }
+pub put_none : {out : List ℕ} {at : ℕ} → Put [] out at out at
+put_none {out} {at} = record { bytes = refl; place = sym (add-zero at) }
 
 -- a line at the front of a buffer
-pub printed-put : {line before after : List ℕ} {size : ℕ} → Printed line before after size →
+pub printed_put : {line before after : List ℕ} {size : ℕ} → Printed line before after size →
     Put line before 0 after size
-printed-put {line} p = record { bytes = p.bytes; place = p.whole ∙ sym (zero-add (length line)) }
+printed_put {line} p = record { bytes = p.bytes; place = p.whole ∙ sym (zero-add (length line)) }
 
 -- a line behind a text
-pub line-behind : {text line out₀ out out₁ : List ℕ} {from at size : ℕ} →
-    Put text out₀ from out at → at + lineMost ≤ length out →
-    Printed line (take (at + lineMost - at) (drop at out)) out₁ size →
-    Put (text ++ line) out₀ from (put_mid at (at + lineMost - at) out out₁) (at + size)
-line-behind {text} {line} {out₀} {out} {out₁} {from} {at} {size} p l q =
+pub line_behind : {text line out₀ out out₁ : List ℕ} {from at size : ℕ} →
+    Put text out₀ from out at → at + line_most ≤ length out →
+    Printed line (take (at + line_most - at) (drop at out)) out₁ size →
+    Put (text ++ line) out₀ from (put_mid at (at + line_most - at) out out₁) (at + size)
+line_behind {text} {line} {out₀} {out} {out₁} {from} {at} {size} p l q =
     p then record {
-      bytes = part-stored out out₁ line at lineMost l (omega (arith, q.whole, q.short)) q.bytes;
+      bytes = part_stored out out₁ line at line_most l (omega (arith, q.whole, q.short)) q.bytes;
       place = ap (λ (n : ℕ). at + n) q.whole;
     }
 
@@ -73,4 +73,4 @@ pub put_whole : {text before after : List ℕ} {size : ℕ} → Put text before 
     size ≤ length before → take size after ≡ text
 put_whole {text} {before} {after} {size} p h =
     let long : size ≡ length text = p.place ∙ zero-add (length text) in
-    rw (p.bytes, long) (line-front text before (omega (arith, long)))
+    rw (p.bytes, long) (line_front text before (omega (arith, long)))

@@ -5,7 +5,7 @@ use Rattle.wire.proofs.Usual.{◌≡◌, refl, sym, ap, ◌∙◌, List, [], ◌
 use Rattle.wire.proofs.Usual.{◌≤◌, zero-add, arith, length, set, length-append, sets}
 use native.Mathlib.Nat.{add-zero}
 use lib.Seq.{length-sets, append_snoc}
-use Rattle.wire.proofs.Stores.{sets-append, set-sets-comm}
+use Rattle.wire.proofs.Stores.{sets-append, set_sets_comm}
 use Rattle.report.specs.Lines.{Printed, Put}
 
 -- ---- pieces
@@ -37,18 +37,18 @@ pub ◌then◌ : {s t l m n : List ℕ} {at mid next : ℕ} → Put s l at m mid
 }
 
 -- a text that is stored at once
-pub put-text : {l n : List ℕ} {at : ℕ} (text : List ℕ) → n ≡ sets l at text →
+pub put_text : {l n : List ℕ} {at : ℕ} (text : List ℕ) → n ≡ sets l at text →
     Put text l at n (at + length text)
-put-text text e = record { bytes = e; place = refl }
+put_text text e = record { bytes = e; place = refl }
 
 -- a last character
 pub put_last : {l n : List ℕ} {at : ℕ} (a : ℕ) → n ≡ set l at a → Put (a ∷ []) l at n (at + 1)
 put_last a e = record { bytes = e; place = refl }
 
 -- a text at the front of a buffer is a line
-pub put-printed : {line l n : List ℕ} {size : ℕ} → length line ≤ 96 → Put line l 0 n size →
+pub put_printed : {line l n : List ℕ} {size : ℕ} → length line ≤ 96 → Put line l 0 n size →
     Printed line l n size
-put-printed {line} h p = record {
+put_printed {line} h p = record {
   bytes = p.bytes;
   whole = p.place ∙ zero-add (length line);
   short = omega (arith, p.place);
@@ -64,9 +64,9 @@ pub record Behind (l : List ℕ) (at : ℕ) (text out : List ℕ) (to : ℕ) (fr
   pub bytes : out ≡ sets l to tail
 
 -- nothing is stored
-pub behind-none : (l : List ℕ) (at : ℕ) (text : List ℕ) {k : ℕ} → k ≡ length text →
+pub behind_none : (l : List ℕ) (at : ℕ) (text : List ℕ) {k : ℕ} → k ≡ length text →
     Behind l at text l (at + k) text
-behind-none l at text e = record {
+behind_none l at text e = record {
   tail = [];
   whole = sym (append-nil text);
   place = ap (λ (k : ℕ). at + k) e;
@@ -94,7 +94,7 @@ module _ {l text out front : List ℕ} {at to : ℕ} (b : Behind l at text out t
         place = omega (arith, b.place, size);
         bytes =
             e
-            ∙ rw b.bytes (set-sets-comm b.tail l (to - 1) to a (omega arith))
+            ∙ rw b.bytes (set_sets_comm b.tail l (to - 1) to a (omega arith))
             ∙ ap (λ (k : ℕ). sets (set l (to - 1) a) k b.tail) (sym next);
       }
 
@@ -107,8 +107,8 @@ module _ {l text out front : List ℕ} {at to : ℕ} (b : Behind l at text out t
       ∙ sym (ap (sets l at) (b.whole ∙ ap (λ (s : List ℕ). s ++ b.tail) f))
 
 -- the last character that was left, stored at its place
-pub behind-first : {l text out out' front : List ℕ} {at to : ℕ} (a : ℕ) → Behind l at text out to front →
+pub behind_first : {l text out out' front : List ℕ} {at to : ℕ} (a : ℕ) → Behind l at text out to front →
     front ≡ a ∷ [] → out' ≡ set out at a → out' ≡ sets l at text
-behind-first {out = out} {at = at} {to = to} a b f e =
+behind_first {out = out} {at = at} {to = to} a b f e =
     let start : at ≡ to - 1 = omega (arith, b.place, ap length f) in
     behind-all (behind_more b a f (e ∙ ap (λ (k : ℕ). set out k a) start)) refl

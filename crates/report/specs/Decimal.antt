@@ -11,19 +11,19 @@ digit d = 48 + d
 
 -- general: the digits of n, of which there are at most `most`: a number below 10 is its one digit, any other has the
 -- digits of n / 10 and then its last
-unfoldable pub digitsWithin : ℕ → ℕ → List ℕ
-digitsWithin zero n = []
-digitsWithin (suc most) n =
-    let longer = digitsWithin most (n / 10) ++ (digit (n % 10) ∷ []) in cond (ltb n 10) (digit n ∷ []) longer
+unfoldable pub digits_within : ℕ → ℕ → List ℕ
+digits_within zero n = []
+digits_within (suc most) n =
+    let longer = digits_within most (n / 10) ++ (digit (n % 10) ∷ []) in cond (ltb n 10) (digit n ∷ []) longer
 
 -- 01, "The trace program": a number in decimal. No number n has more than n + 1 digits.
 unfoldable pub decimal : ℕ → List ℕ
-decimal n = digitsWithin (suc n) n
+decimal n = digits_within (suc n) n
 
 -- 01, "The trace program": a number with its sign, where it has one
-unfoldable pub signedDecimal : ℤ → List ℕ
-signedDecimal (pos n) = decimal n
-signedDecimal (negsuc n) = 45 ∷ decimal (suc n)
+unfoldable pub signed_decimal : ℤ → List ℕ
+signed_decimal (pos n) = decimal n
+signed_decimal (negsuc n) = 45 ∷ decimal (suc n)
 
 -- general: the number that stands before the digits is v; each digit makes ten times as much of it, and adds itself
 abbrev pub read_on : ℕ → List ℕ → ℕ

@@ -2,7 +2,7 @@
 // the ledger program a month and a bend. Each function stores its line at the front of the buffer and answers the
 // line's length. What lies past the end of the buffer is not stored; a buffer of `LINE_MOST` bytes takes every line
 // whole.
-ghost use Rattle.report.specs.Lines.{findingLine, endLine, refusedLine, Printed};
+ghost use Rattle.report.specs.Lines.{finding_line, end_line, refused_line, Printed};
 
 mod ledger;
 mod pieces;
@@ -25,7 +25,7 @@ pub fn finding_line(
     tb: NumType,
     y: u32,
 ) -> usize
-    ensures { Printed (findingLine cycle block text diagnosis ta x tb y)
+    ensures { Printed (finding_line cycle block text diagnosis ta x tb y)
         out.old out.new result }
 {
     wire::put(out, 0, b"finding");
@@ -41,7 +41,7 @@ pub fn finding_line(
 
 // The last line of a trace.
 pub fn end_line(out: &mut [u8], cycles: u32, findings: u32) -> usize
-    ensures { Printed (endLine cycles findings) out.old out.new result }
+    ensures { Printed (end_line cycles findings) out.old out.new result }
 {
     wire::put(out, 0, b"end");
     let after_cycles = pieces::put_field(out, 3, cycles);
@@ -52,7 +52,7 @@ pub fn end_line(out: &mut [u8], cycles: u32, findings: u32) -> usize
 
 // The line of a refusal: the last of a trace that was refused, and the only one of a ledger.
 pub fn refused_line(out: &mut [u8], number: u8) -> usize
-    ensures { Printed (refusedLine number) out.old out.new result }
+    ensures { Printed (refused_line number) out.old out.new result }
 {
     wire::put(out, 0, b"refused");
     let after_number = pieces::put_field(out, 7, number as u32);

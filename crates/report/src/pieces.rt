@@ -1,8 +1,8 @@
 // The pieces of a line, stored in a lent buffer from a place on: a byte, a number in decimal, a number in hexadecimal.
 ghost use Rattle.std.specs.Prelude.{◌≡◌, ◌+◌, ◌≤◌, ◌%◌, length, set};
 ghost use Rattle.numbers.specs.Types.{value};
-ghost use Rattle.report.specs.Decimal.{decimal, signedDecimal};
-ghost use Rattle.report.specs.LedgerLines.{hexDigit, hexadecimal};
+ghost use Rattle.report.specs.Decimal.{decimal, signed_decimal};
+ghost use Rattle.report.specs.LedgerLines.{hex_digit, hexadecimal};
 ghost use Rattle.report.specs.Lines.{field, Put};
 
 use numbers::NumType;
@@ -82,7 +82,7 @@ pub fn put_field(out: &mut [u8], at: usize, n: u32) -> usize
 // A space and the number of a stored word, signed by its type, likewise.
 pub fn put_input(out: &mut [u8], at: usize, t: NumType, w: u32) -> usize
     requires { at ≤ 96 }
-    ensures put { Put (field (signedDecimal (value t w))) out.old at out.new result }
+    ensures put { Put (field (signed_decimal (value t w))) out.old at out.new result }
     ensures upper_bound { result ≤ at + 12 }
 {
     let v = numbers::load(t, w);
@@ -97,7 +97,7 @@ pub fn put_input(out: &mut [u8], at: usize, t: NumType, w: u32) -> usize
 
 // The last digit of a number in hexadecimal.
 fn hex_digit(n: u64) -> u8
-    ensures { result ≡ hexDigit (n % 16) }
+    ensures { result ≡ hex_digit (n % 16) }
 {
     let d = (n % 16) as u8;
     if d < 10 {

@@ -2,11 +2,11 @@
 // `end` with the counts or `refused` with the number (01, "The trace program"). The file is checked once. The evaluator
 // runs the cycles and `lines` makes the lines; here they are written.
 ghost use Rattle.std.specs.Prelude.{◌≡◌, ◌/◌, ◌<◌, ◌≤◌, length, replicate};
-ghost use Rattle.casefile.specs.Bodies.{projectOf};
-ghost use Rattle.evaluator.specs.Fresh.{freshFor};
-ghost use Rattle.tracer.specs.Traced.{runEnd, end_of};
-ghost use Rattle.tracer.specs.Text.{lines_of, lastLine, Told};
-ghost use Rattle.tracer.specs.Asks.{textMost, Started, Offered};
+ghost use Rattle.casefile.specs.Bodies.{project_of};
+ghost use Rattle.evaluator.specs.Fresh.{fresh_for};
+ghost use Rattle.tracer.specs.Traced.{run_end, end_of};
+ghost use Rattle.tracer.specs.Text.{lines_of, last_line, Told};
+ghost use Rattle.tracer.specs.Asks.{text_most, Started, Offered};
 
 mod lines;
 
@@ -38,7 +38,7 @@ fn write_cycle(file: &[u8], cycle: u32, text: &[u8])
 
 // Writes the last line. It is given no other.
 fn write_last(file: &[u8], text: &[u8])
-    requires { text.now ≡ lastLine (end_of file.now) }
+    requires { text.now ≡ last_line (end_of file.now) }
 {
     io::write_all(STDOUT_FILENO, text);
 }
@@ -46,7 +46,7 @@ fn write_last(file: &[u8], text: &[u8])
 // Prints the lines of a cycle's k findings, and leaves zeros in their place for the next.
 fn print_cycle(file: &[u8], blocks: &[u8], cycle: u32, k: u32, findings: &mut [u8], text: &mut [u8])
     requires told { Told file.now cycle (lines_of blocks.now cycle k findings.old) }
-    requires k_bound { (k ≤ 64) × (length text.old ≡ textMost) }
+    requires k_bound { (k ≤ 64) × (length text.old ≡ text_most) }
     requires findings_value { k ≡ 0 → findings.old ≡ replicate (length findings.old) 0 }
     ensures { findings.new ≡ replicate (length findings.old) 0 }
 {
@@ -60,7 +60,7 @@ fn print_cycle(file: &[u8], blocks: &[u8], cycle: u32, k: u32, findings: &mut [u
 
 // Prints the last line.
 fn print_last(file: &[u8], end: End, text: &mut [u8])
-    requires { (end ≡ end_of file.now) × (length text.old ≡ textMost) }
+    requires { (end ≡ end_of file.now) × (length text.old ≡ text_most) }
 {
     let size = lines::last_line(text, end);
     write_last(file, &text[..size]);
@@ -82,8 +82,8 @@ fn run(
 ) -> End
     requires started { Started file.now c groups.now inputs.now blocks.now records.now order.now
         findings.old }
-    requires state_value { (state.old ≡ freshFor (projectOf file.now)) × (length text.old ≡ textMost) }
-    ensures { result ≡ runEnd file.now }
+    requires state_value { (state.old ≡ fresh_for (project_of file.now)) × (length text.old ≡ text_most) }
+    ensures { result ≡ run_end file.now }
 {
     let n = record_count(c.size, records);
     let mut total: u32 = 0;
@@ -130,7 +130,7 @@ fn trace_cycles(
     text: &mut [u8],
 ) -> End
     requires offered { Offered file.now c state.old findings.old }
-    requires text_len { length text.old ≡ textMost }
+    requires text_len { length text.old ≡ text_most }
     ensures { result ≡ end_of file.now }
 {
     let number = evaluator::fresh(file, state);

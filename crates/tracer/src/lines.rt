@@ -2,9 +2,9 @@
 // other, and the last. The crate `report` makes a line from its numbers; which numbers they are is said here.
 ghost use Rattle.std.specs.Prelude.{◌≡◌, ◌≤◌, length};
 ghost use Rattle.report.specs.Lines.{Printed, Put};
-ghost use Rattle.block.specs.Finding.{findingIn};
-ghost use Rattle.tracer.specs.Text.{shownAs, shownType, line_of, lines_of, lastLine};
-ghost use Rattle.tracer.specs.Asks.{textMost};
+ghost use Rattle.block.specs.Finding.{finding_in};
+ghost use Rattle.tracer.specs.Text.{shown_as, shown_type, line_of, lines_of, last_line};
+ghost use Rattle.tracer.specs.Asks.{text_most};
 
 use crate::End;
 use block::FINDING_SIZE;
@@ -14,7 +14,7 @@ use report::LINE_MOST;
 
 // The type of an input port as the line shows its word: numbers by their type, everything else unsigned.
 fn shown_as(family: Family, kind: u8, parameters: &[u8], port: u8) -> NumType
-    ensures { result ≡ shownAs family kind parameters.now port }
+    ensures { result ≡ shown_as family kind parameters.now port }
 {
     match family {
         Family::Decouple => NumType::Uint32,
@@ -26,7 +26,7 @@ fn shown_as(family: Family, kind: u8, parameters: &[u8], port: u8) -> NumType
 
 // That of input `port` of block b.
 fn shown_type(blocks: &[u8], b: u8, port: u8) -> NumType
-    ensures { result ≡ shownType blocks.now b port }
+    ensures { result ≡ shown_type blocks.now b port }
 {
     let r = project::block_record(blocks, b as usize);
     let kind = project::kind_of(r);
@@ -35,7 +35,7 @@ fn shown_type(blocks: &[u8], b: u8, port: u8) -> NumType
 
 // The line of the finding whose record is f.
 fn finding_line(out: &mut [u8], blocks: &[u8], cycle: u32, f: &[u8]) -> usize
-    ensures { Printed (line_of blocks.now cycle (findingIn f.now))
+    ensures { Printed (line_of blocks.now cycle (finding_in f.now))
         out.old out.new result }
 {
     let said = block::read_finding(f);
@@ -55,10 +55,10 @@ fn finding_line(out: &mut [u8], blocks: &[u8], cycle: u32, f: &[u8]) -> usize
 
 // The lines of a cycle's k findings, all of them in their order. Answers how many bytes they have.
 pub fn cycle_lines(out: &mut [u8], blocks: &[u8], cycle: u32, k: u32, findings: &[u8]) -> usize
-    requires { (k ≤ 64) × (length out.old ≡ textMost) }
+    requires { (k ≤ 64) × (length out.old ≡ text_most) }
     ensures put { Put (lines_of blocks.now cycle k findings.now)
         out.old 0 out.new result }
-    ensures upper_bound { result ≤ textMost }
+    ensures upper_bound { result ≤ text_most }
 {
     let mut at = 0;
     let mut i: u32 = 0;
@@ -73,7 +73,7 @@ pub fn cycle_lines(out: &mut [u8], blocks: &[u8], cycle: u32, k: u32, findings: 
 
 // The last line.
 pub fn last_line(out: &mut [u8], end: End) -> usize
-    ensures { Printed (lastLine end) out.old out.new result }
+    ensures { Printed (last_line end) out.old out.new result }
 {
     match end {
         End::Refused(number) => report::refused_line(out, number),

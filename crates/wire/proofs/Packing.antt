@@ -14,7 +14,7 @@ use lib.ListN.{replicate-append-replicate, take-append-drop}
 use lib.Seq.{sets-eq, take_at, drop_at, drop-append-add, drop-append-le, drop-drop, drop-length, take_all}
 use Rattle.wire.specs.Packed.{entries, hits, packed}
 use Rattle.wire.proofs.Records.{apart}
-use Rattle.wire.proofs.Stores.{part-front}
+use Rattle.wire.proofs.Stores.{part_front}
 
 drop-replicate : (j m a : ℕ) → drop j (replicate m a) ≡ replicate (m - j) a
 drop-replicate zero m a = ap (λ (k : ℕ). replicate k a) (sym (sub-zero m))
@@ -22,8 +22,8 @@ drop-replicate (suc j) zero a = ap (λ (k : ℕ). replicate k a) (sym (zero-sub 
 drop-replicate (suc j) (suc m) a = drop-replicate j m a ∙ ap (λ (k : ℕ). replicate k a) (sym (suc-sub-suc m j))
 
 -- a run of stores right after p
-sets-after : (p q v : List ℕ) → length v ≤ length q → sets (p ++ q) (length p) v ≡ p ++ v ++ drop (length v) q
-sets-after p q v l =
+sets_after : (p q v : List ℕ) → length v ≤ length q → sets (p ++ q) (length p) v ≡ p ++ v ++ drop (length v) q
+sets_after p q v l =
     sets-eq v (p ++ q) (length p) (simp length-append (omega arith))
     ∙ ap₂ (λ (x y : List ℕ). x ++ v ++ y) (take_at p q (length p) refl) (drop-append-add p q (length v))
 
@@ -36,8 +36,8 @@ pub record Kept (w : ℕ) (hit : ℕ → Bool) (f : ℕ → List ℕ) (s buffer 
   pub list : buffer ≡ packed (w * b) b hit f ++ drop (w * b) s
 
 -- a run of stores over a whole buffer
-pub sets-whole : (v l : List ℕ) → length v ≡ length l → sets l 0 v ≡ v
-sets-whole v l e =
+pub sets_whole : (v l : List ℕ) → length v ≡ length l → sets l 0 v ≡ v
+sets_whole v l e =
     sets-eq v l 0 (omega arith) ∙ ap (λ (t : List ℕ). v ++ t)
     (ap (λ (k : ℕ). drop k l) (zero-add (length v) ∙ e) ∙ drop-length l) ∙ append-nil v
 
@@ -142,7 +142,7 @@ module _ (w : ℕ) (hit : ℕ → Bool) (f : ℕ → List ℕ) where
         let w-zeros = length-replicate {A = ℕ} w 0 in
         ap (λ (t : List ℕ). sets t (w * b) (replicate w 0)) (front s buffer k b h)
         ∙ ap (λ (j : ℕ). sets (entries b hit f ++ zeros k b ++ drop (w * b) s) j (replicate w 0)) (sym long-packed)
-        ∙ sets-after (entries b hit f ++ zeros k b) (drop (w * b) s) (replicate w 0)
+        ∙ sets_after (entries b hit f ++ zeros k b) (drop (w * b) s) (replicate w 0)
         (omega (arith, w-zeros, length-drop (w * b) s, next b))
         ∙ ap (λ (t : List ℕ). entries b hit f ++ zeros k b ++ replicate w 0 ++ t)
         (ap (λ (j : ℕ). drop j (drop (w * b) s)) w-zeros ∙ drop-drop w (w * b) s
@@ -165,7 +165,7 @@ module _ (w : ℕ) (hit : ℕ → Bool) (f : ℕ → List ℕ) where
           ap (λ (t : List ℕ). sets t (w * k) (f b)) cleared
           ∙ ap (λ (j : ℕ). sets (entries b hit f ++ (zeros k (b + 1) ++ drop (w * (b + 1)) s)) j (f b))
           (sym h.size)
-          ∙ sets-after (entries b hit f) (zeros k (b + 1) ++ drop (w * (b + 1)) s) (f b) fits
+          ∙ sets_after (entries b hit f) (zeros k (b + 1) ++ drop (w * (b + 1)) s) (f b) fits
           ∙ ap (λ (t : List ℕ). entries b hit f ++ f b ++ t)
           (after-zeros ∙ ap (λ (m : ℕ). replicate m 0 ++ drop (w * (b + 1)) s) count_left)
           ∙ sym (append_assoc (entries b hit f ++ f b) (replicate (w * (b + 1) - length (entries b hit f ++ f b)) 0)
@@ -200,14 +200,14 @@ module _ (w : ℕ) (hit : ℕ → Bool) (f : ℕ → List ℕ) where
       ∙ append-nil (packed (w * n) n hit f)
 
 -- what is packed depends on the places that are hit alone
-entries-same : (n : ℕ) (hit hit' : ℕ → Bool) (f f' : ℕ → List ℕ) →
+entries_same : (n : ℕ) (hit hit' : ℕ → Bool) (f f' : ℕ → List ℕ) →
     ((b : ℕ) → b < n → hit b ≡ hit' b) →
     ((b : ℕ) → b < n → hit' b ≡ true → f b ≡ f' b) →
     entries n hit f ≡ entries n hit' f'
 unfolding entries
-entries-same zero hit hit' f f' p q = refl
-entries-same (suc n) hit hit' f f' p q =
-    ap₂ (λ (x y : List ℕ). x ++ y) (entries-same n hit hit' f f' (λ b l. p b (omega arith))
+entries_same zero hit hit' f f' p q = refl
+entries_same (suc n) hit hit' f f' p q =
+    ap₂ (λ (x y : List ℕ). x ++ y) (entries_same n hit hit' f f' (λ b l. p b (omega arith))
     (λ b l. q b (omega arith)))
     (ap (λ (t : Bool). cond t (f n) []) (p n (omega arith)) ∙ last (hit' n) refl)
   where
@@ -215,28 +215,28 @@ entries-same (suc n) hit hit' f f' p q =
     last true e = q n (omega arith) e
     last false e = refl
 
-pub packed-same : (size n : ℕ) (hit hit' : ℕ → Bool) (f f' : ℕ → List ℕ) →
+pub packed_same : (size n : ℕ) (hit hit' : ℕ → Bool) (f f' : ℕ → List ℕ) →
     ((b : ℕ) → b < n → hit b ≡ hit' b) →
     ((b : ℕ) → b < n → hit' b ≡ true → f b ≡ f' b) →
     packed size n hit f ≡ packed size n hit' f'
 unfolding packed
-packed-same size n hit hit' f f' p q =
-    ap (λ (t : List ℕ). t ++ replicate (size - length t) 0) (entries-same n hit hit' f f' p q)
+packed_same size n hit hit' f f' p q =
+    ap (λ (t : List ℕ). t ++ replicate (size - length t) 0) (entries_same n hit hit' f f' p q)
 
-pub hits-same : (n : ℕ) (hit hit' : ℕ → Bool) → ((b : ℕ) → b < n → hit b ≡ hit' b) →
+pub hits_same : (n : ℕ) (hit hit' : ℕ → Bool) → ((b : ℕ) → b < n → hit b ≡ hit' b) →
     hits n hit ≡ hits n hit'
 unfolding hits
-hits-same zero hit hit' p = refl
-hits-same (suc n) hit hit' p =
-    ap₂ (λ (x : ℕ) (t : Bool). x + cond t 1 0) (hits-same n hit hit' (λ b l. p b (omega arith)))
+hits_same zero hit hit' p = refl
+hits_same (suc n) hit hit' p =
+    ap₂ (λ (x : ℕ) (t : Bool). x + cond t 1 0) (hits_same n hit hit' (λ b l. p b (omega arith)))
     (p n (omega arith))
 
 -- where none is hit
-pub hits-none : (n : ℕ) (hit : ℕ → Bool) → ((b : ℕ) → b < n → hit b ≡ false) → hits n hit ≡ 0
+pub hits_none : (n : ℕ) (hit : ℕ → Bool) → ((b : ℕ) → b < n → hit b ≡ false) → hits n hit ≡ 0
 unfolding hits
-hits-none zero hit p = refl
-hits-none (suc n) hit p =
-    ap₂ (λ (x : ℕ) (t : Bool). x + cond t 1 0) (hits-none n hit (λ b l. p b (omega arith))) (p n (omega arith))
+hits_none zero hit p = refl
+hits_none (suc n) hit p =
+    ap₂ (λ (x : ℕ) (t : Bool). x + cond t 1 0) (hits_none n hit (λ b l. p b (omega arith))) (p n (omega arith))
 
 entries_none : (n : ℕ) (hit : ℕ → Bool) (f : ℕ → List ℕ) →
     ((b : ℕ) → b < n → hit b ≡ false) → entries n hit f ≡ []
@@ -256,19 +256,19 @@ packed_none size n hit f p =
 
 -- ---- how many are hit
 
-pub one-most : (t : Bool) → cond t 1 0 ≤ 1
-one-most true = omega arith
-one-most false = omega arith
+pub one_most : (t : Bool) → cond t 1 0 ≤ 1
+one_most true = omega arith
+one_most false = omega arith
 
-pub hits-most : (n : ℕ) (hit : ℕ → Bool) → hits n hit ≤ n
+pub hits_most : (n : ℕ) (hit : ℕ → Bool) → hits n hit ≤ n
 unfolding hits
-hits-most zero hit = omega arith
-hits-most (suc n) hit = omega (arith, hits-most n hit, one-most (hit n))
+hits_most zero hit = omega arith
+hits_most (suc n) hit = omega (arith, hits_most n hit, one_most (hit n))
 
-pub hits-zero : (n : ℕ) (hit : ℕ → Bool) → hits n hit ≡ 0 → (b : ℕ) → b < n → hit b ≡ false
+pub hits_zero : (n : ℕ) (hit : ℕ → Bool) → hits n hit ≡ 0 → (b : ℕ) → b < n → hit b ≡ false
 unfolding hits
-hits-zero zero hit e b l = absurd (not-suc-le-zero l)
-hits-zero (suc n) hit e b l = go (ℕ_discrete b n) (hit n) refl (λ m. hits-zero n hit (omega (arith, e)) b m)
+hits_zero zero hit e b l = absurd (not-suc-le-zero l)
+hits_zero (suc n) hit e b l = go (ℕ_discrete b n) (hit n) refl (λ m. hits_zero n hit (omega (arith, e)) b m)
   where
     go : Dec (b ≡ n) → (t : Bool) → hit n ≡ t → (b < n → hit b ≡ false) → hit b ≡ false
     go (yes q) false h w = ap hit q ∙ h
@@ -281,20 +281,20 @@ unfolding hits
 hits_more n hit = ap (λ (k : ℕ). hits k hit) (add-one n)
 
 -- fewer are hit where more is asked
-pub hits-part : (n : ℕ) (hit also : ℕ → Bool) → hits n (λ k. hit k && also k) ≤ hits n hit
+pub hits_part : (n : ℕ) (hit also : ℕ → Bool) → hits n (λ k. hit k && also k) ≤ hits n hit
 unfolding hits
-hits-part zero hit also = omega arith
-hits-part (suc n) hit also = omega (arith, hits-part n hit also, fewer (hit n) (also n))
+hits_part zero hit also = omega arith
+hits_part (suc n) hit also = omega (arith, hits_part n hit also, fewer (hit n) (also n))
   where
     fewer : (t u : Bool) → cond (t && u) 1 0 ≤ cond t 1 0
-    fewer true u = one-most u
+    fewer true u = one_most u
     fewer false u = omega arith
 
 -- every place is hit
-pub hits-every : (n : ℕ) → hits n (λ k. true) ≡ n
+pub hits_every : (n : ℕ) → hits n (λ k. true) ≡ n
 unfolding hits
-hits-every zero = refl
-hits-every (suc n) = ap (λ (k : ℕ). k + 1) (hits-every n) ∙ add-one n
+hits_every zero = refl
+hits_every (suc n) = ap (λ (k : ℕ). k + 1) (hits_every n) ∙ add-one n
 
 -- ---- the entries of places that each have w bytes
 
@@ -327,7 +327,7 @@ module _ (w : ℕ) (hit : ℕ → Bool) (f : ℕ → List ℕ) where
 
       same : (k : ℕ) → k < hits n hit →
           p (take w (drop (w * k) (before ++ f n))) ≡ p (take w (drop (w * k) before))
-      same k l = ap p (part-front before (f n) (w * k) w (omega (arith, size, apart w k (hits n hit) l)))
+      same k l = ap p (part_front before (f n) (w * k) w (omega (arith, size, apart w k (hits n hit) l)))
 
       last : take w (drop (w * hits n hit) (before ++ f n)) ≡ f n
       last = ap (take w) (drop_at before (f n) (w * hits n hit) size)
@@ -339,7 +339,7 @@ module _ (w : ℕ) (hit : ℕ → Bool) (f : ℕ → List ℕ) where
           ≡ hits n (λ k. hit k && p (f k)) + cond (t && p (f n)) 1 0
       go e true =
           hits_more (hits n hit) (λ k. p (take w (drop (w * k) (before ++ f n))))
-          ∙ ap₂ (λ (x : ℕ) (t : Bool). x + cond t 1 0) (hits-same (hits n hit) _ _ same ∙ e) (ap p last)
+          ∙ ap₂ (λ (x : ℕ) (t : Bool). x + cond t 1 0) (hits_same (hits n hit) _ _ same ∙ e) (ap p last)
       go e false =
           ap₂ (λ (m : ℕ) (s : List ℕ). hits m (λ k. p (take w (drop (w * k) s)))) (add-zero (hits n hit))
           (append-nil before)
@@ -351,8 +351,8 @@ module _ (w : ℕ) (hit : ℕ → Bool) (f : ℕ → List ℕ) where
       (k : ℕ) → k < hits n hit → p (take w (drop (w * k) (entries n hit f))) ≡ true
   entries-each p n long good k l =
       not-false _
-      (hits-zero (hits n hit) (λ j. not (p (take w (drop (w * j) (entries n hit f)))))
-      (entries-hits (λ x. not (p x)) n long ∙ hits-none n _ (λ b m. go b m (hit b) refl)) k l)
+      (hits_zero (hits n hit) (λ j. not (p (take w (drop (w * j) (entries n hit f)))))
+      (entries-hits (λ x. not (p x)) n long ∙ hits_none n _ (λ b m. go b m (hit b) refl)) k l)
     where
       go : (b : ℕ) → b < n → (t : Bool) → hit b ≡ t → hit b && not (p (f b)) ≡ false
       go b m true e = rw (e, good b m e)

@@ -6,7 +6,7 @@ use Rattle.wire.proofs.Usual.{◌≢◌, List, [], ◌∷◌, ◌++◌, ℕ, zer
 use Rattle.wire.proofs.Usual.{ltb, length}
 use mathlib.Core.Logic.{◌↔◌, ◌⊎◌, inl, inr}
 use native.Mathlib.Nat.{not-suc-le-zero, le_of_suc-le-suc}
-use Rattle.wire.specs.Places.{firstBad}
+use Rattle.wire.specs.Places.{first_bad}
 use Rattle.wire.specs.Tables.{Row, first, row_at, FirstIn, AllKept}
 use Rattle.wire.proofs.Places.{found, both_left, both_right}
 
@@ -70,15 +70,15 @@ module _ {rs : List Row} {a b : ℕ} (f : FirstIn rs a) (g : FirstIn rs b) where
   one-first = sym f.number ∙ ap (λ (k : ℕ). (row_at rs k).number) same_place ∙ g.number
 
 -- a table that is not kept throughout has no row that is not kept, and the reverse
-pub kept-not : {rs : List Row} {n : ℕ} → AllKept rs → FirstIn rs n → ⊥
-kept-not h f = true≢false (sym (h f.place) ∙ f.fails)
+pub kept_not : {rs : List Row} {n : ℕ} → AllKept rs → FirstIn rs n → ⊥
+kept_not h f = true≢false (sym (h f.place) ∙ f.fails)
 
 module _ (rs : List Row) where
   pub first-in : {n : ℕ} → FirstIn rs n → first rs ≡ n
   first-in {n} f = go (first-is rs)
     where
       go : Holding rs (first rs) ⊎ FirstIn rs (first rs) → first rs ≡ n
-      go (inl h) = absurd (kept-not h.each f)
+      go (inl h) = absurd (kept_not h.each f)
       go (inr g) = one-first g f
 
   pub first-none : AllKept rs → first rs ≡ 0
@@ -86,16 +86,16 @@ module _ (rs : List Row) where
     where
       go : Holding rs (first rs) ⊎ FirstIn rs (first rs) → first rs ≡ 0
       go (inl w) = w.none
-      go (inr f) = absurd (kept-not h f)
+      go (inr f) = absurd (kept_not h f)
 
 -- ---- where no row has the number 0
 
-pub number-some : (rs : List Row) → numbered rs ≡ true → (k : ℕ) → kept_at rs k ≡ false →
+pub number_some : (rs : List Row) → numbered rs ≡ true → (k : ℕ) → kept_at rs k ≡ false →
     0 < (row_at rs k).number
 unfolding numbered
-number-some [] s k f = absurd (true≢false f)
-number-some (r ∷ rs) s zero f = ltb-true 0 r.number (both_left (ltb 0 r.number) (numbered rs) s)
-number-some (r ∷ rs) s (suc k) f = number-some rs (both_right (ltb 0 r.number) (numbered rs) s) k f
+number_some [] s k f = absurd (true≢false f)
+number_some (r ∷ rs) s zero f = ltb-true 0 r.number (both_left (ltb 0 r.number) (numbered rs) s)
+number_some (r ∷ rs) s (suc k) f = number_some rs (both_right (ltb 0 r.number) (numbered rs) s) k f
 
 module _ (rs : List Row) (s : numbered rs ≡ true) where
   pub first-zero : (first rs ≡ 0) ↔ AllKept rs
@@ -103,7 +103,7 @@ module _ (rs : List Row) (s : numbered rs ≡ true) where
     where
       go : first rs ≡ 0 → Holding rs (first rs) ⊎ FirstIn rs (first rs) → AllKept rs
       go z (inl h) = h.each
-      go z (inr f) = absurd (omega (arith, z, f.number, number-some rs s f.place f.fails))
+      go z (inr f) = absurd (omega (arith, z, f.number, number_some rs s f.place f.fails))
 
   pub first_some : (n : ℕ) → n ≢ 0 → (first rs ≡ n) ↔ FirstIn rs n
   first_some n p = (λ e. go e (first-is rs), first-in rs)
@@ -114,12 +114,12 @@ module _ (rs : List Row) (s : numbered rs ≡ true) where
 
 -- ---- a search over the places finds the row
 
-past-kept : (rs : List Row) (k : ℕ) → length rs ≤ k → kept_at rs k ≡ true
-past-kept [] k l = refl
-past-kept (r ∷ rs) zero l = absurd (not-suc-le-zero l)
-past-kept (r ∷ rs) (suc k) l = past-kept rs k (le_of_suc-le-suc l)
+past_kept : (rs : List Row) (k : ℕ) → length rs ≤ k → kept_at rs k ≡ true
+past_kept [] k l = refl
+past_kept (r ∷ rs) zero l = absurd (not-suc-le-zero l)
+past_kept (r ∷ rs) (suc k) l = past_kept rs k (le_of_suc-le-suc l)
 
-module _ (rs : List Row) {k : ℕ} (e : k ≡ firstBad (kept_at rs) (length rs)) where
+module _ (rs : List Row) {k : ℕ} (e : k ≡ first_bad (kept_at rs) (length rs)) where
   pub first-hit : k < length rs → first rs ≡ (row_at rs k).number
   first-hit l = first-in rs (record {
     place = k;
@@ -133,7 +133,7 @@ module _ (rs : List Row) {k : ℕ} (e : k ≡ firstBad (kept_at rs) (length rs))
     where
       go : (j : ℕ) → Dec (j < length rs) → kept_at rs j ≡ true
       go j (yes m) = (found (kept_at rs) (length rs)).each j (omega arith) (omega arith)
-      go j (no m) = past-kept rs j (omega (arith, m))
+      go j (no m) = past_kept rs j (omega (arith, m))
 
 -- ---- one table after another
 
@@ -143,10 +143,10 @@ unfolding first
 first-kept [] b h = refl
 first-kept (r ∷ a) b h = rw (h 0) (first-kept a b (λ k. h (suc k)))
 
-pub first-broken : (a b : List Row) → first a ≢ 0 → first (a ++ b) ≡ first a
+pub first_broken : (a b : List Row) → first a ≢ 0 → first (a ++ b) ≡ first a
 unfolding first
-first-broken [] b h = absurd (h refl)
-first-broken (r ∷ a) b h = go r.kept refl (first-broken a b)
+first_broken [] b h = absurd (h refl)
+first_broken (r ∷ a) b h = go r.kept refl (first_broken a b)
   where
     go : (t : Bool) → r.kept ≡ t → (first a ≢ 0 → first (a ++ b) ≡ first a) →
         cond r.kept (first (a ++ b)) r.number ≡ cond r.kept (first a) r.number

@@ -8,21 +8,21 @@ use native.Mathlib.Numerals.{add-one}
 use borrow.Author.Count.{below_more}
 use borrow.Author.Tests.{le-ltb, ltb-false}
 use lib.Ieee.Positive.{through}
-use Rattle.wire.specs.Places.{firstBad, all}
-use Rattle.wire.proofs.Places.{hit, done, all_true, fails-all, both_left, both_right}
+use Rattle.wire.specs.Places.{first_bad, all}
+use Rattle.wire.proofs.Places.{hit, done, all_true, fails_all, both_left, both_right}
 use Rattle.year.specs.declared.bends.Sides.{Sides}
-use Rattle.year.specs.Bends.{bothSides, over, under, larger}
+use Rattle.year.specs.Bends.{both_sides, over, under, larger}
 use Rattle.year.specs.Asks.{better}
 
 -- ---- fractions
 
-under-pos : (s : Sides) → bothSides s ≡ true → 0 < under s
-under-pos s h =
+under_pos : (s : Sides) → both_sides s ≡ true → 0 < under s
+under_pos s h =
     mul-pos (ltb-true 0 _ (both_right (ltb 0 s.upto.findings) _ h))
     (ltb-true 0 _ (both_left (ltb 0 s.upto.findings) _ h))
 
 -- what is larger than t is larger than whatever is not larger than t
-larger-over : (s t u : Sides) → bothSides u ≡ true → larger u t ≡ false → larger s t ≡ true →
+larger-over : (s t u : Sides) → both_sides u ≡ true → larger u t ≡ false → larger s t ≡ true →
     larger s u ≡ true
 unfolding larger
 larger-over s t u vu n h = go (dec_lt (over u * under s) (over s * under u))
@@ -32,31 +32,31 @@ larger-over s t u vu n h = go (dec_lt (over u * under s) (over s * under u))
     go (no x) =
         absurd
         (not-le_of_lt (ltb-true (over t * under s) (over s * under t) h)
-        (through (over s) (over u) (over t) (under s) (under u) (under t) (under-pos u vu) (omega (arith, x))
+        (through (over s) (over u) (over t) (under s) (under u) (under t) (under_pos u vu) (omega (arith, x))
         (ltb-false (over t * under u) (over u * under t) n)))
 
-larger-back : (s t : Sides) → larger s t ≡ true → larger t s ≡ false
+larger_back : (s t : Sides) → larger s t ≡ true → larger t s ≡ false
 unfolding larger
-larger-back s t h =
+larger_back s t h =
     le-ltb (over s * under t) (over t * under s) (le_of_lt (ltb-true (over t * under s) (over s * under t) h))
 
-larger-self : (s : Sides) → larger s s ≡ false
+larger_self : (s : Sides) → larger s s ≡ false
 unfolding larger
-larger-self s = le-ltb (over s * under s) (over s * under s) (le_refl _)
+larger_self s = le-ltb (over s * under s) (over s * under s) (le_refl _)
 
 -- ---- the loop: v has the sides of each of n months, those below m have been looked at
 module _ (v : ℕ → Sides) (n : ℕ) where
   abbrev pub best : ℕ → Bool
-  best m = bothSides (v m) && all (λ k. not (bothSides (v k) && larger (v k) (v m))) n
+  best m = both_sides (v m) && all (λ k. not (both_sides (v k) && larger (v k) (v m))) n
 
   pub record Top (has : Bool) (b : ℕ) (top : Sides) (m : ℕ) : Type 0 where
     pub within : m ≤ n
-    pub none : has ≡ false → (k : ℕ) → k < m → bothSides (v k) ≡ false
+    pub none : has ≡ false → (k : ℕ) → k < m → both_sides (v k) ≡ false
     pub below : has ≡ true → b < m
     pub is : has ≡ true → top ≡ v b
-    pub good : has ≡ true → bothSides (v b) ≡ true
-    pub over : has ≡ true → (k : ℕ) → k < m → bothSides (v k) ≡ true → larger (v k) (v b) ≡ false
-    pub first : has ≡ true → (k : ℕ) → k < b → bothSides (v k) ≡ true → larger (v b) (v k) ≡ true
+    pub good : has ≡ true → both_sides (v b) ≡ true
+    pub over : has ≡ true → (k : ℕ) → k < m → both_sides (v k) ≡ true → larger (v k) (v b) ≡ false
+    pub first : has ≡ true → (k : ℕ) → k < b → both_sides (v k) ≡ true → larger (v b) (v k) ≡ true
 
   pub begin : (b : ℕ) (top : Sides) → Top false b top 0
   begin b top = record {
@@ -77,19 +77,19 @@ module _ (v : ℕ → Sides) (n : ℕ) where
     none = λ e. absurd (true≢false e);
     below = λ _. omega arith;
     is = λ _. refl;
-    good = λ _. both_left (bothSides (v m)) _ h;
+    good = λ _. both_left (both_sides (v m)) _ h;
     over =
-        λ _. below_more (λ k. bothSides (v k) ≡ true → larger (v k) (v m) ≡ false) m
-        (λ k q u. larger-back (v m) (v k) (wins has refl k q u)) (λ u. larger-self (v m));
+        λ _. below_more (λ k. both_sides (v k) ≡ true → larger (v k) (v m) ≡ false) m
+        (λ k q u. larger_back (v m) (v k) (wins has refl k q u)) (λ u. larger_self (v m));
     first = λ _ k q u. wins has refl k q u;
   }
     where
-      wins : (x : Bool) → has ≡ x → (k : ℕ) → k < m → bothSides (v k) ≡ true →
+      wins : (x : Bool) → has ≡ x → (k : ℕ) → k < m → both_sides (v k) ≡ true →
           larger (v m) (v k) ≡ true
       wins false e k q u = absurd (true≢false (sym u ∙ t.none e k q))
       wins true e k q u =
           let w : larger (v m) top ≡ true =
-          rw e at (both_right (bothSides (v m)) (not has || larger (v m) top) h) in
+          rw e at (both_right (both_sides (v m)) (not has || larger (v m) top) h) in
           larger-over (v m) (v b) (v k) u (t.over e k q u) (rw (t.is e) at w)
 
   -- one that is not
@@ -97,48 +97,48 @@ module _ (v : ℕ → Sides) (n : ℕ) where
       better (v m) has top ≡ false → Top has b top (m + 1)
   keep has b top m t l h = record {
     within = omega arith;
-    none = λ e. below_more (λ k. bothSides (v k) ≡ false) m (t.none e) (dull e (bothSides (v m)) refl);
+    none = λ e. below_more (λ k. both_sides (v k) ≡ false) m (t.none e) (dull e (both_sides (v m)) refl);
     below = λ e. omega (arith, t.below e);
     is = t.is;
     good = t.good;
     over =
-        λ e. below_more (λ k. bothSides (v k) ≡ true → larger (v k) (v b) ≡ false) m (t.over e)
+        λ e. below_more (λ k. both_sides (v k) ≡ true → larger (v k) (v b) ≡ false) m (t.over e)
         (λ u. lost e u);
     first = t.first;
   }
     where
-      dull : has ≡ false → (y : Bool) → bothSides (v m) ≡ y → bothSides (v m) ≡ false
+      dull : has ≡ false → (y : Bool) → both_sides (v m) ≡ y → both_sides (v m) ≡ false
       dull e true z = absurd (true≢false (rw (z, e) at h))
       dull e false z = z
 
-      lost : has ≡ true → bothSides (v m) ≡ true → larger (v m) (v b) ≡ false
+      lost : has ≡ true → both_sides (v m) ≡ true → larger (v m) (v b) ≡ false
       lost e u = rw (u, e, t.is e) at h
 
   -- all have been looked at
   pub found : (has : Bool) (b : ℕ) (top : Sides) (m : ℕ) → Top has b top m → n ≤ m → has ≡ true →
-      b ≡ firstBad (λ k. not (best k)) n
+      b ≡ first_bad (λ k. not (best k)) n
   found has b top m t l e =
       hit (record {
         within = omega (arith, t.below e, t.within);
-        each = λ k q. earlier k q (bothSides (v k)) refl;
-      }) {x = not (best b)} refl (rw (t.good e, all_true _ n (λ k q. unbeaten k q (bothSides (v k)) refl)))
+        each = λ k q. earlier k q (both_sides (v k)) refl;
+      }) {x = not (best b)} refl (rw (t.good e, all_true _ n (λ k q. unbeaten k q (both_sides (v k)) refl)))
     where
-      unbeaten : (k : ℕ) → k < n → (y : Bool) → bothSides (v k) ≡ y →
-          not (bothSides (v k) && larger (v k) (v b)) ≡ true
+      unbeaten : (k : ℕ) → k < n → (y : Bool) → both_sides (v k) ≡ y →
+          not (both_sides (v k) && larger (v k) (v b)) ≡ true
       unbeaten k q true z = rw (z, t.over e k (omega arith) z)
       unbeaten k q false z = rw z
 
-      earlier : (k : ℕ) → k < b → (y : Bool) → bothSides (v k) ≡ y → not (best k) ≡ true
+      earlier : (k : ℕ) → k < b → (y : Bool) → both_sides (v k) ≡ y → not (best k) ≡ true
       earlier k q true z =
           rw (
             z,
-            fails-all (λ j. not (bothSides (v j) && larger (v j) (v k))) n b
+            fails_all (λ j. not (both_sides (v j) && larger (v j) (v k))) n b
                 (omega (arith, t.below e, t.within)) (rw (t.good e, t.first e k q z)),
           )
       earlier k q false z = rw z
 
   pub nothing : (has : Bool) (b : ℕ) (top : Sides) (m : ℕ) → Top has b top m → n ≤ m → has ≡ false →
-      n ≡ firstBad (λ k. not (best k)) n
+      n ≡ first_bad (λ k. not (best k)) n
   nothing has b top m t l e =
       done (record { within = le_refl n; each = λ k q. rw (t.none e k (omega arith)) }) (le_refl n)
 
@@ -198,13 +198,13 @@ module _ (s : Sides) (part : s.upto.dismissed ≤ s.upto.findings) where
       ∙ add-mul (s.later.dismissed * s.upto.findings) (under s) k
 
 -- the comparison is that of r / R - l / L, brought to one denominator, each subtracted term on the other side
-pub larger-literal : (s t : Sides) →
+pub larger_literal : (s t : Sides) →
     s.upto.dismissed ≤ s.upto.findings → t.upto.dismissed ≤ t.upto.findings →
     larger s t
     ≡ ltb (t.later.dismissed * t.upto.findings * under s + s.upto.dismissed * s.later.findings * under t)
     (s.later.dismissed * s.upto.findings * under t + t.upto.dismissed * t.later.findings * under s)
 unfolding larger
-larger-literal s t ls lt =
+larger_literal s t ls lt =
     compare_same (over t * under s) (over s * under t)
     (t.later.dismissed * t.upto.findings * under s) (s.later.dismissed * s.upto.findings * under t)
     (t.upto.dismissed * t.later.findings * under s) (s.upto.dismissed * s.later.findings * under t)

@@ -13,25 +13,25 @@ module _ {A : Type 0} (d : A) where
   length_from k zero f = refl
   length_from k (suc n) f = ap suc (length_from (suc k) n f)
 
-  pub getD-from : (k n i : ℕ) (f : ℕ → A) → i < n → get_or (from k n f) i d ≡ f (k + i)
-  getD-from k zero i f l = absurd (not-suc-le-zero l)
-  getD-from k (suc n) zero f l = rw (add-zero k)
-  getD-from k (suc n) (suc i) f l =
-      rw (add-suc k i) (getD-from (suc k) n i f (omega arith) ∙ ap f (omega arith))
+  pub get_or_from : (k n i : ℕ) (f : ℕ → A) → i < n → get_or (from k n f) i d ≡ f (k + i)
+  get_or_from k zero i f l = absurd (not-suc-le-zero l)
+  get_or_from k (suc n) zero f l = rw (add-zero k)
+  get_or_from k (suc n) (suc i) f l =
+      rw (add-suc k i) (get_or_from (suc k) n i f (omega arith) ∙ ap f (omega arith))
 
   -- a list is the run of its elements
   pub is-from : (xs : List A) (n : ℕ) (f : ℕ → A) → length xs ≡ n →
       ((i : ℕ) → i < n → get_or xs i d ≡ f i) → xs ≡ from 0 n f
   is-from xs n f e h =
       ext_get_or d xs (from 0 n f) (e ∙ sym (length_from 0 n f))
-      (λ i l. h i (omega arith) ∙ sym (getD-from 0 n i f (omega arith) ∙ ap f (zero-add i)))
+      (λ i l. h i (omega arith) ∙ sym (get_or_from 0 n i f (omega arith) ∙ ap f (zero-add i)))
 
 -- two runs of equal elements
-pub from-same : {A : Type 0} (k n : ℕ) (f g : ℕ → A) → ((m : ℕ) → m < k + n → f m ≡ g m) →
+pub from_same : {A : Type 0} (k n : ℕ) (f g : ℕ → A) → ((m : ℕ) → m < k + n → f m ≡ g m) →
     from k n f ≡ from k n g
-from-same k zero f g h = refl
-from-same k (suc n) f g h =
-    ap₂ ◌∷◌ (h k (omega arith)) (from-same (suc k) n f g (λ m l. h m (omega arith)))
+from_same k zero f g h = refl
+from_same k (suc n) f g h =
+    ap₂ ◌∷◌ (h k (omega arith)) (from_same (suc k) n f g (λ m l. h m (omega arith)))
 
 -- the first k of n places hold f; d is what lies past the end
 pub record Filled {A : Type 0} (d : A) (f : ℕ → A) (n : ℕ) (xs : List A) (k : ℕ) : Type 0 where

@@ -172,8 +172,8 @@ module _ (N c : ℕ) (some : 0 < c) where
 -- ---- so a share is rounded to the nearest float
 
 -- a quotient that is at most 1 is far from the largest float; p stands for 2 ^ 1074, in which nothing is computed here
-share-most : (d n p : ℕ) → 0 < n → d ≤ n → d * p / n ≤ p
-share-most d n p some part =
+share_most : (d n p : ℕ) → 0 < n → d ≤ n → d * p / n ≤ p
+share_most d n p some part =
     rw (div-one p) at
     (div_mono (d * p) n p 1 some (omega arith)
     (omega (arith, mul-one (d * p), mul_comm p n, mul-le-mul part (le_refl p))))
@@ -184,13 +184,13 @@ twice_most x m p l h = omega arith
 fits_below : (x : ℕ) → x ≤ 2 * 2 ^ 1074 + 1 → x < overflow binary64
 fits_below x l = lt_of_le_of_lt l (ltb-true (2 * 2 ^ 1074 + 1) (overflow binary64) refl)
 
-pub round-nearest : (d n : ℕ) → 0 < n → d ≤ n → Nearest d n (round binary64 false d n)
-round-nearest d n some part = record {
+pub round_nearest : (d n : ℕ) → 0 < n → d ≤ n → Nearest d n (round binary64 false d n)
+round_nearest d n some part = record {
   held = round-fits binary64 false d n;
   units = grid binary64 d n;
   value =
       round_val binary64 d n (fits_below (grid binary64 d n)
       (twice_most (grid binary64 d n) (d * 2 ^ 1074 / n) (2 ^ 1074) (rounded-most (d * 2 ^ 1074) n some)
-      (share-most d n (2 ^ 1074) some part)));
+      (share_most d n (2 ^ 1074) some part)));
   nearest = no-nearer (d * 2 ^ 1074) n some;
 }

@@ -17,7 +17,7 @@ use lib.Ieee.Order.{round_mono}
 use lib.Ieee.Positive.{first_pos}
 use lib.Ieee.Scale.{round_same}
 use Rattle.year.specs.declared.Share.TheVariants.{Rate}
-use Rattle.year.specs.Months.{rateOf, bits_of}
+use Rattle.year.specs.Months.{rate_of, bits_of}
 
 -- ---- the division is one rounding of the quotient
 
@@ -44,61 +44,61 @@ quotient (fin s m e) (fin t n d) a b l hx hy =
     (rw (p, q) (regroup a (down e) (down d) b)))
 
 -- no count is so large that it is not a float
-abbrev countMost : ℕ
-countMost = 65536
+abbrev count_most : ℕ
+count_most = 65536
 
 -- one in 65,536 is a float above 0, and all but one is one below 1
-above-none : T (le (round binary64 false 1 countMost) (fin false 0 (pos 0))) → ⊥
+above_none : T (le (round binary64 false 1 count_most) (fin false 0 (pos 0))) → ⊥
 unfolding round le
-above-none h = h
+above_none h = h
 
-below_all : T (le (fin false 1 (pos 0)) (round binary64 false 65535 countMost)) → ⊥
+below_all : T (le (fin false 1 (pos 0)) (round binary64 false 65535 count_most)) → ⊥
 unfolding round le
 below_all h = h
 
 -- n findings, d of them dismissed
-module _ (n d : ℕ) (some : 0 < n) (few : n ≤ countMost) (part : d ≤ n) where
+module _ (n d : ℕ) (some : 0 < n) (few : n ≤ count_most) (part : d ≤ n) where
   -- the 64-bit float nearest to d / n, ties to even
-  pub rate-nearest : rateOf n d ≡ round binary64 false d n
+  pub rate-nearest : rate_of n d ≡ round binary64 false d n
   unfolding of_int
   rate-nearest =
       quotient _ _ d n some (round_whole binary64 false d (omega arith)) (round_whole binary64 false n (omega arith))
 
   -- 0 where none were dismissed, and only there: one of them is at least a part in 65,536
-  pub rate-none : d ≡ 0 → rateOf n d ≡ fin false 0 (pos 0)
+  pub rate-none : d ≡ 0 → rate_of n d ≡ fin false 0 (pos 0)
   unfolding round
   rate-none e =
       rate-nearest ∙ round_same binary64 false d n 0 1 some (omega arith) (rw e (zero-mul 1 ∙ sym (zero-mul n)))
 
-  pub none-rate : rateOf n d ≡ fin false 0 (pos 0) → d ≡ 0
+  pub none-rate : rate_of n d ≡ fin false 0 (pos 0) → d ≡ 0
   none-rate e = go (dec_lt 0 d)
     where
-      least : 0 < d → T (le (round binary64 false 1 countMost) (round binary64 false d n))
-      least l = round_mono binary64 1 countMost d n (omega arith) some (mul-le-mul {n₁ = 1} l few)
+      least : 0 < d → T (le (round binary64 false 1 count_most) (round binary64 false d n))
+      least l = round_mono binary64 1 count_most d n (omega arith) some (mul-le-mul {n₁ = 1} l few)
 
       go : Dec (0 < d) → d ≡ 0
       go (no q) = omega (arith, q)
       go (yes l) =
-          absurd (above-none (subst (λ (x : Float). T (le (round binary64 false 1 countMost) x))
+          absurd (above_none (subst (λ (x : Float). T (le (round binary64 false 1 count_most) x))
           (sym rate-nearest ∙ e) (least l)))
 
   -- 1 where all were dismissed, and only there: one that was not is at least a part in 65,536
-  pub rate-all : d ≡ n → rateOf n d ≡ fin false 1 (pos 0)
+  pub rate-all : d ≡ n → rate_of n d ≡ fin false 1 (pos 0)
   unfolding round
   rate-all e =
       rate-nearest ∙ round_same binary64 false d n 1 1 some (omega arith)
       (rw e (mul-one n ∙ sym (one-mul n)))
 
-  pub all-rate : rateOf n d ≡ fin false 1 (pos 0) → d ≡ n
+  pub all-rate : rate_of n d ≡ fin false 1 (pos 0) → d ≡ n
   all-rate e = go (dec_lt d n)
     where
-      most : d < n → T (le (round binary64 false d n) (round binary64 false 65535 countMost))
-      most l = round_mono binary64 d n 65535 countMost some (omega arith) (omega arith)
+      most : d < n → T (le (round binary64 false d n) (round binary64 false 65535 count_most))
+      most l = round_mono binary64 d n 65535 count_most some (omega arith) (omega arith)
 
       go : Dec (d < n) → d ≡ n
       go (no q) = omega (arith, q)
       go (yes l) =
-          absurd (below_all (subst (λ (x : Float). T (le x (round binary64 false 65535 countMost)))
+          absurd (below_all (subst (λ (x : Float). T (le x (round binary64 false 65535 count_most)))
           (sym rate-nearest ∙ e) (most l)))
 
 -- ---- its bits
@@ -109,28 +109,28 @@ no_nan nan h = absurd (true≢false (sym h))
 no_nan (inf s) h = tt
 no_nan (fin s m e) h = tt
 
-units-real : (f : Format) (s : Bool) (q k : ℕ) → is_nan (units f s q k) ≡ false
+units_real : (f : Format) (s : Bool) (q k : ℕ) → is_nan (units f s q k) ≡ false
 unfolding units odd is_nan
-units-real f s q k = go (ltb (q * 2 ^ k) (2 ^ (low f + suc (emax f)))) q
+units_real f s q k = go (ltb (q * 2 ^ k) (2 ^ (low f + suc (emax f)))) q
   where
     go : (t : Bool) (q : ℕ) → is_nan (cond t (odd (suc (prec f)) s q k (low f)) (inf s)) ≡ false
     go true zero = refl
     go true (suc q) = refl
     go false q = refl
 
-round-real : (f : Format) (s : Bool) (a b : ℕ) → is_nan (round f s a b) ≡ false
+round_real : (f : Format) (s : Bool) (a b : ℕ) → is_nan (round f s a b) ≡ false
 unfolding round
-round-real f s a b = units-real f s _ _
+round_real f s a b = units_real f s _ _
 
-equal-self : (x : Float) → is_nan x ≡ false → eq x x ≡ true
+equal_self : (x : Float) → is_nan x ≡ false → eq x x ≡ true
 unfolding eq is_nan
-equal-self nan h = absurd (true≢false h)
-equal-self (inf true) h = refl
-equal-self (inf false) h = refl
-equal-self (fin true m e) h = rw (eq-eqb (m * up e * down e) (m * up e * down e) refl)
-equal-self (fin false m e) h = rw (eq-eqb (m * up e * down e) (m * up e * down e) refl)
+equal_self nan h = absurd (true≢false h)
+equal_self (inf true) h = refl
+equal_self (inf false) h = refl
+equal_self (fin true m e) h = rw (eq-eqb (m * up e * down e) (m * up e * down e) refl)
+equal_self (fin false m e) h = rw (eq-eqb (m * up e * down e) (m * up e * down e) refl)
 
 -- what is rounded is a number, and so has bits of its own
-pub round-bits : (a b : ℕ) →
+pub round_bits : (a b : ℕ) →
     bits_of (Rate (round binary64 false a b)) ≡ to_bits binary64 (round binary64 false a b)
-round-bits a b = rw (equal-self (round binary64 false a b) (round-real binary64 false a b))
+round_bits a b = rw (equal_self (round binary64 false a b) (round_real binary64 false a b))

@@ -4,8 +4,8 @@ use native.Mathlib.Nat.{mul-le-mul, mul-suc}
 use native.Mathlib.Numerals.{add-one}
 use Rattle.year.specs.declared.Line.{Line}
 use Rattle.year.specs.declared.bends.Sides.{Sides}
-use Rattle.year.specs.Ledger.{monthCount, monthMost}
-use Rattle.year.specs.Bends.{sum_of, line_at, poolOf, sidesAt, over, under}
+use Rattle.year.specs.Ledger.{month_count, month_most}
+use Rattle.year.specs.Bends.{sum_of, line_at, pool_of, sides_at, over, under}
 use Rattle.year.specs.Asks.{Counted, SmallPool, SmallSides}
 
 -- one place more
@@ -14,20 +14,20 @@ unfolding sum_of
 sum_more f k n = ap (sum_of f k) (add-one n)
 
 -- each at most so much
-pub sum-most : (f : ℕ → ℕ) (most k n : ℕ) → ((m : ℕ) → m < k + n → f m ≤ most) →
+pub sum_most : (f : ℕ → ℕ) (most k n : ℕ) → ((m : ℕ) → m < k + n → f m ≤ most) →
     sum_of f k n ≤ most * n
 unfolding sum_of
-sum-most f most k zero h = omega arith
-sum-most f most k (suc n) h =
-    omega (arith, sum-most f most k n (λ m l. h m (omega arith)), h (k + n) (omega arith), mul-suc most n)
+sum_most f most k zero h = omega arith
+sum_most f most k (suc n) h =
+    omega (arith, sum_most f most k n (λ m l. h m (omega arith)), h (k + n) (omega arith), mul-suc most n)
 
 -- each at most the other's
-pub sum-least : (f g : ℕ → ℕ) (k n : ℕ) → ((m : ℕ) → m < k + n → f m ≤ g m) →
+pub sum_least : (f g : ℕ → ℕ) (k n : ℕ) → ((m : ℕ) → m < k + n → f m ≤ g m) →
     sum_of f k n ≤ sum_of g k n
 unfolding sum_of
-sum-least f g k zero h = omega arith
-sum-least f g k (suc n) h =
-    omega (arith, sum-least f g k n (λ m l. h m (omega arith)), h (k + n) (omega arith))
+sum_least f g k zero h = omega arith
+sum_least f g k (suc n) h =
+    omega (arith, sum_least f g k n (λ m l. h m (omega arith)), h (k + n) (omega arith))
 
 -- a sum above 0 has a part above 0, and the reverse
 pub record Some (f : ℕ → ℕ) (k n : ℕ) : Type 0 where
@@ -36,10 +36,10 @@ pub record Some (f : ℕ → ℕ) (k n : ℕ) : Type 0 where
   pub below : place < k + n
   pub some : 0 < f place
 
-pub sum-some : (f : ℕ → ℕ) (k n : ℕ) → 0 < sum_of f k n → Some f k n
+pub sum_some : (f : ℕ → ℕ) (k n : ℕ) → 0 < sum_of f k n → Some f k n
 unfolding sum_of
-sum-some f k zero l = absurd (omega arith)
-sum-some f k (suc n) l = go (sum-some f k n) (dec_lt 0 (sum_of f k n))
+sum_some f k zero l = absurd (omega arith)
+sum_some f k (suc n) l = go (sum_some f k n) (dec_lt 0 (sum_of f k n))
   where
     go : (0 < sum_of f k n → Some f k n) → Dec (0 < sum_of f k n) → Some f k (suc n)
     go r (yes q) =
@@ -47,10 +47,10 @@ sum-some f k (suc n) l = go (sum-some f k n) (dec_lt 0 (sum_of f k n))
         record { place = s.place; from = s.from; below = omega (arith, s.below); some = s.some }
     go r (no q) = record { place = k + n; from = omega arith; below = omega arith; some = omega (arith, q) }
 
-pub some-sum : (f : ℕ → ℕ) (k n i : ℕ) → k ≤ i → i < k + n → f i ≤ sum_of f k n
+pub some_sum : (f : ℕ → ℕ) (k n i : ℕ) → k ≤ i → i < k + n → f i ≤ sum_of f k n
 unfolding sum_of
-some-sum f k zero i a l = absurd (omega arith)
-some-sum f k (suc n) i a l = go (some-sum f k n i a) (dec_lt i (k + n))
+some_sum f k zero i a l = absurd (omega arith)
+some_sum f k (suc n) i a l = go (some_sum f k n i a) (dec_lt i (k + n))
   where
     go : (i < k + n → f i ≤ sum_of f k n) → Dec (i < k + n) → f i ≤ sum_of f k n + f (k + n)
     go r (yes q) = omega (arith, r q)
@@ -70,9 +70,9 @@ add_begin f k = record {
   is = let none : 0 ≡ k - k = omega arith in ap (sum_of f k) none;
 }
 
-pub add-more : (f : ℕ → ℕ) (k m s x : ℕ) → Added f k m s → x ≡ f m → x < 4294967296 →
+pub add_more : (f : ℕ → ℕ) (k m s x : ℕ) → Added f k m s → x ≡ f m → x < 4294967296 →
     Added f k (m + 1) (s + x)
-add-more f k m s x h e l =
+add_more f k m s x h e l =
     let next : m + 1 - k ≡ m - k + 1 = omega (arith, h.from) in
     let here : k + (m - k) ≡ m = omega (arith, h.from) in
     record {
@@ -86,18 +86,18 @@ add-more f k m s x h e l =
 -- ---- pools of counted lines are small
 
 module _ (L : List Line) (h : Counted L) where
-  pool-small : (k n : ℕ) → k + n ≤ monthCount → SmallPool (poolOf L k n)
-  unfolding poolOf
+  pool-small : (k n : ℕ) → k + n ≤ month_count → SmallPool (pool_of L k n)
+  unfolding pool_of
   pool-small k n l = record {
-    few = omega (arith, sum-most (λ m. (line_at L m).findings) monthMost k n (λ m q. h.few m (omega arith)));
-    part = sum-least (λ m. (line_at L m).dismissed) (λ m. (line_at L m).findings) k n (λ m q. h.part m (omega arith));
+    few = omega (arith, sum_most (λ m. (line_at L m).findings) month_most k n (λ m q. h.few m (omega arith)));
+    part = sum_least (λ m. (line_at L m).dismissed) (λ m. (line_at L m).findings) k n (λ m q. h.part m (omega arith));
   }
 
-  pub sides-small : (m : ℕ) → m < monthCount → SmallSides (sidesAt L m)
-  unfolding sidesAt
+  pub sides-small : (m : ℕ) → m < month_count → SmallSides (sides_at L m)
+  unfolding sides_at
   sides-small m l = record {
     upto = pool-small 0 (m + 1) (omega arith);
-    later = pool-small (m + 1) (monthCount - (m + 1)) (omega arith);
+    later = pool-small (m + 1) (month_count - (m + 1)) (omega arith);
   }
 
 -- ---- and so are the products
@@ -115,5 +115,5 @@ module _ {s : Sides} (h : SmallSides s) where
   pub under-le : under s ≤ 2414739600
   under-le = mul-le-mul h.later.few h.upto.few
 
-pub cross-le : {a b : ℕ} → a ≤ 4829479200 → b ≤ 2414739600 → a * b ≤ 11661935000000000000
-cross-le p q = omega (arith, mul-le-mul p q)
+pub cross_le : {a b : ℕ} → a ≤ 4829479200 → b ≤ 2414739600 → a * b ≤ 11661935000000000000
+cross_le p q = omega (arith, mul-le-mul p q)

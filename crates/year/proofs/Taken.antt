@@ -5,70 +5,70 @@ use Rattle.wire.proofs.Usual.{zero-add}
 use borrow.Author.Tests.{leb-true, le-leb}
 use Rattle.wire.specs.Tables.{first, row_at}
 use Rattle.wire.proofs.Tables.{numbered, first-zero}
-use Rattle.wire.proofs.Places.{all-each}
-use Rattle.wire.proofs.Packing.{hits-most, hits-part}
-use Rattle.contents.specs.Contents.{contentsSize, contentsOk, body_of}
+use Rattle.wire.proofs.Places.{all_each}
+use Rattle.wire.proofs.Packing.{hits_most, hits_part}
+use Rattle.contents.specs.Contents.{contents_size, contents_ok, body_of}
 use Rattle.year.specs.declared.Closings.{Closings}
 use Rattle.year.specs.declared.Line.{Line}
 use Rattle.year.specs.declared.rules.MonthRule.{MonthRule}
 use Rattle.year.specs.declared.rules.MonthRule.TheVariants.{Whole, Values, Few}
-use Rattle.year.specs.Ledger.{monthCount, monthMost, findingCount, kept, keptIn, monthsOk, ledgerTable}
-use Rattle.year.specs.Ledger.{ledgerNumber}
+use Rattle.year.specs.Ledger.{month_count, month_most, finding_count, kept, kept_in, months_ok, ledger_table}
+use Rattle.year.specs.Ledger.{ledger_number}
 use Rattle.year.specs.Months.{found, dismissed, line_of}
-use Rattle.year.specs.Bends.{noLine, line_at}
-use Rattle.year.specs.Year.{monthLine, lines_of}
+use Rattle.year.specs.Bends.{no_line, line_at}
+use Rattle.year.specs.Year.{month_line, lines_of}
 use Rattle.year.specs.Asks.{Small, Counted}
-use Rattle.year.proofs.Filling.{getD-from}
+use Rattle.year.proofs.Filling.{get_or_from}
 
-module _ (F : List ℕ) (z : ledgerNumber F ≡ 0) where
-  row_kept : (k : ℕ) → (row_at (ledgerTable F) k).kept ≡ true
-  unfolding ledgerNumber ledgerTable numbered
-  row_kept = (first-zero (ledgerTable F) refl).0 z
+module _ (F : List ℕ) (z : ledger_number F ≡ 0) where
+  row_kept : (k : ℕ) → (row_at (ledger_table F) k).kept ≡ true
+  unfolding ledger_number ledger_table numbered
+  row_kept = (first-zero (ledger_table F) refl).0 z
 
-  pub taken-whole : monthsOk Whole F ≡ true
-  unfolding ledgerTable
+  pub taken-whole : months_ok Whole F ≡ true
+  unfolding ledger_table
   taken-whole = row_kept 2
 
-  pub taken-values : monthsOk Values F ≡ true
-  unfolding ledgerTable
+  pub taken-values : months_ok Values F ≡ true
+  unfolding ledger_table
   taken-values = row_kept 3
 
-  pub taken-few : monthsOk Few F ≡ true
-  unfolding ledgerTable
+  pub taken-few : months_ok Few F ≡ true
+  unfolding ledger_table
   taken-few = row_kept 4
 
   pub taken-small : Small F
-  unfolding monthsOk keptIn
+  unfolding months_ok kept_in
   taken-small = record {
-    month = λ m l. leb-true (findingCount (body_of F m)) monthMost (all-each (keptIn Few F) monthCount taken-few m l);
+    month = λ m l. leb-true (finding_count (body_of F m)) month_most (all_each (kept_in Few F) month_count taken-few m l);
   }
 
 -- and what has all of it is accepted
-pub taken-whenever : (F : List ℕ) → contentsSize monthCount ≤ length F → contentsOk monthCount F ≡ true →
-    ((a : MonthRule) → monthsOk a F ≡ true) → ledgerNumber F ≡ 0
-unfolding ledgerNumber ledgerTable first
-taken-whenever F long contents months =
-    rw (le-leb (contentsSize monthCount) (length F) long, contents, months Whole, months Values, months Few)
+pub taken_whenever : (F : List ℕ) → contents_size month_count ≤ length F → contents_ok month_count F ≡ true →
+    ((a : MonthRule) → months_ok a F ≡ true) → ledger_number F ≡ 0
+unfolding ledger_number ledger_table first
+taken_whenever F long contents months =
+    rw (le-leb (contents_size month_count) (length F) long, contents, months Whole, months Values, months Few)
 
 -- ---- the lines
 
 module _ (c : Closings) (F : List ℕ) where
-  pub line-is : (m : ℕ) → m < monthCount → line_at (lines_of c F) m ≡ monthLine c F m
+  pub line-is : (m : ℕ) → m < month_count → line_at (lines_of c F) m ≡ month_line c F m
   unfolding lines_of
-  line-is m l = getD-from noLine 0 monthCount m (monthLine c F) l ∙ ap (monthLine c F) (zero-add m)
+  line-is m l = get_or_from no_line 0 month_count m (month_line c F) l ∙ ap (month_line c F) (zero-add m)
 
-  pub found-most : (m : ℕ) → found c (body_of F m) ≤ findingCount (body_of F m)
+  pub found-most : (m : ℕ) → found c (body_of F m) ≤ finding_count (body_of F m)
   unfolding found
-  found-most m = hits-most (findingCount (body_of F m)) _
+  found-most m = hits_most (finding_count (body_of F m)) _
 
   pub dismissed-part : (m : ℕ) → dismissed c (body_of F m) ≤ found c (body_of F m)
   unfolding found dismissed
-  dismissed-part m = hits-part (findingCount (body_of F m)) _ _
+  dismissed-part m = hits_part (finding_count (body_of F m)) _ _
 
   pub lines-counted : Small F → Counted (lines_of c F)
-  unfolding monthLine line_of
+  unfolding month_line line_of
   lines-counted h = record {
-    few = λ m l. subst (λ (x : Line). x.findings ≤ monthMost) (sym (line-is m l))
+    few = λ m l. subst (λ (x : Line). x.findings ≤ month_most) (sym (line-is m l))
         (omega (arith, found-most m, h.month m l));
     part = λ m l. subst (λ (x : Line). x.dismissed ≤ x.findings) (sym (line-is m l)) (dismissed-part m);
   }

@@ -4,21 +4,21 @@ use Rattle.contents.specs.Contents.{body_of}
 use Rattle.year.specs.declared.Line.{Line}
 use Rattle.year.specs.declared.bends.Pool.{Pool}
 use Rattle.year.specs.declared.bends.Sides.{Sides}
-use Rattle.year.specs.Ledger.{monthCount, monthMost, findingCount}
-use Rattle.year.specs.Bends.{line_at, bothSides, larger}
+use Rattle.year.specs.Ledger.{month_count, month_most, finding_count}
+use Rattle.year.specs.Bends.{line_at, both_sides, larger}
 
 -- 02, W4: no month has too many findings
 pub record Small (F : List ℕ) : Type 0 where
-  pub month : (m : ℕ) → m < monthCount → findingCount (body_of F m) ≤ monthMost
+  pub month : (m : ℕ) → m < month_count → finding_count (body_of F m) ≤ month_most
 
 -- 02, W4: no line has too many findings, nor more dismissed ones than it has findings
 pub record Counted (L : List Line) : Type 0 where
-  pub few : (m : ℕ) → m < monthCount → (line_at L m).findings ≤ monthMost
-  pub part : (m : ℕ) → m < monthCount → (line_at L m).dismissed ≤ (line_at L m).findings
+  pub few : (m : ℕ) → m < month_count → (line_at L m).findings ≤ month_most
+  pub part : (m : ℕ) → m < month_count → (line_at L m).dismissed ≤ (line_at L m).findings
 
 -- 02, W4: at most twelve times 4,095 findings
 pub record SmallPool (p : Pool) : Type 0 where
-  pub few : p.findings ≤ monthCount * monthMost
+  pub few : p.findings ≤ month_count * month_most
   pub part : p.dismissed ≤ p.findings
 
 pub record SmallSides (s : Sides) : Type 0 where
@@ -28,4 +28,4 @@ pub record SmallSides (s : Sides) : Type 0 where
 -- 02, W4: the month of s has a finding on both sides, and there was none before, or the best of them, t, has a smaller
 -- difference
 abbrev pub better : Sides → Bool → Sides → Bool
-better s has t = bothSides s && (not has || larger s t)
+better s has t = both_sides s && (not has || larger s t)

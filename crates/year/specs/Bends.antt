@@ -1,13 +1,13 @@
 -- The bend of a table (02, W4). L is the table's twelve lines, m a month, counted from 0.
 use Rattle.std.specs.Prelude.{ℕ, zero, suc, ◌+◌, ◌-◌, ◌*◌, Bool, not, ◌&&◌, cond, List, ltb, get_or}
 use Rattle.std.specs.Float.{nan}
-use Rattle.wire.specs.Places.{firstBad, all}
+use Rattle.wire.specs.Places.{first_bad, all}
 use Rattle.year.specs.declared.Line.{Line}
 use Rattle.year.specs.declared.bends.Pool.{Pool}
 use Rattle.year.specs.declared.bends.Sides.{Sides}
 use Rattle.year.specs.declared.Bend.{Bend}
 use Rattle.year.specs.declared.Bend.TheVariants.{After, Nothing}
-use Rattle.year.specs.Ledger.{monthCount}
+use Rattle.year.specs.Ledger.{month_count}
 
 -- ---- the two sides of a month
 
@@ -17,26 +17,26 @@ sum_of f k zero = 0
 sum_of f k (suc n) = sum_of f k n + f (k + n)
 
 -- 02, W4: the line of a month; past the twelve there is none
-abbrev pub noLine : Line
-noLine = record { findings = 0; dismissed = 0; rate = nan }
+abbrev pub no_line : Line
+no_line = record { findings = 0; dismissed = 0; rate = nan }
 
 abbrev pub line_at : List Line → ℕ → Line
-line_at L m = get_or L m noLine
+line_at L m = get_or L m no_line
 
 -- 02, W4: n months from k on, pooled: all their findings, and all their dismissed ones
-unfoldable pub poolOf : List Line → ℕ → ℕ → Pool
-poolOf L k n = record {
+unfoldable pub pool_of : List Line → ℕ → ℕ → Pool
+pool_of L k n = record {
   findings = sum_of (λ m. (line_at L m).findings) k n;
   dismissed = sum_of (λ m. (line_at L m).dismissed) k n;
 }
 
 -- 02, W4: all months up to and with it, and all later ones
-unfoldable pub sidesAt : List Line → ℕ → Sides
-sidesAt L m = record { upto = poolOf L 0 (m + 1); later = poolOf L (m + 1) (monthCount - (m + 1)) }
+unfoldable pub sides_at : List Line → ℕ → Sides
+sides_at L m = record { upto = pool_of L 0 (m + 1); later = pool_of L (m + 1) (month_count - (m + 1)) }
 
 -- 02, W4: a finding on both sides
-abbrev pub bothSides : Sides → Bool
-bothSides s = ltb 0 s.upto.findings && ltb 0 s.later.findings
+abbrev pub both_sides : Sides → Bool
+both_sides s = ltb 0 s.upto.findings && ltb 0 s.later.findings
 
 -- ---- the largest difference
 
@@ -57,17 +57,17 @@ larger s t = ltb (over t * under s) (over s * under t)
 -- 02, W4: m is among the months with a finding on both sides, and none of them has a larger difference
 unfoldable pub largest : List Line → ℕ → Bool
 largest L m =
-    bothSides (sidesAt L m)
-    && all (λ k. not (bothSides (sidesAt L k) && larger (sidesAt L k) (sidesAt L m))) monthCount
+    both_sides (sides_at L m)
+    && all (λ k. not (both_sides (sides_at L k) && larger (sides_at L k) (sides_at L m))) month_count
 
 -- 02, W4: the earliest wins a tie; none exactly when no such month exists
-abbrev pub bendAt : ℕ → Bend
-bendAt m = cond (ltb m monthCount) (After (m + 1)) Nothing
+abbrev pub bend_at : ℕ → Bend
+bend_at m = cond (ltb m month_count) (After (m + 1)) Nothing
 
-unfoldable pub bendOf : List Line → Bend
-bendOf L = bendAt (firstBad (λ m. not (largest L m)) monthCount)
+unfoldable pub bend_of : List Line → Bend
+bend_of L = bend_at (first_bad (λ m. not (largest L m)) month_count)
 
 -- 02, W4: the month of a bend as a number, 0 for none
-abbrev pub bendNumber : Bend → ℕ
-bendNumber (After m) = m
-bendNumber Nothing = 0
+abbrev pub bend_number : Bend → ℕ
+bend_number (After m) = m
+bend_number Nothing = 0

@@ -1,8 +1,8 @@
 // The bend of a table (02, W4): the month, among those with a finding on both sides, where the dismissed share of all
 // later months less that of all up to and with it is largest, compared in whole numbers.
 ghost use Rattle.std.specs.Prelude.{◌≡◌, ◌+◌, ◌-◌, ◌≤◌, ◌<◌};
-ghost use Rattle.year.specs.Ledger.{monthCount};
-ghost use Rattle.year.specs.Bends.{poolOf, sidesAt, bothSides, over, under, larger, bendOf};
+ghost use Rattle.year.specs.Ledger.{month_count};
+ghost use Rattle.year.specs.Bends.{pool_of, sides_at, both_sides, over, under, larger, bend_of};
 ghost use Rattle.year.specs.Asks.{Counted, SmallSides, better};
 
 use crate::{Bend, Line, MONTHS};
@@ -29,8 +29,8 @@ fn wide(x: u32) -> u64
 
 // The months from `start` up to but not with `end`, pooled.
 fn pool_of(lines: [Line; MONTHS], start: usize, end: usize) -> Pool
-    requires { start ≤ end × end ≤ monthCount }
-    ensures { result ≡ poolOf lines start (end - start) }
+    requires { start ≤ end × end ≤ month_count }
+    ensures { result ≡ pool_of lines start (end - start) }
 {
     let mut findings = 0u64;
     let mut dismissed = 0u64;
@@ -47,8 +47,8 @@ fn pool_of(lines: [Line; MONTHS], start: usize, end: usize) -> Pool
 }
 
 fn sides_at(lines: [Line; MONTHS], m: usize) -> Sides
-    requires { m < monthCount }
-    ensures { result ≡ sidesAt lines m }
+    requires { m < month_count }
+    ensures { result ≡ sides_at lines m }
 {
     let upto = pool_of(lines, 0, m + 1);
     let later = pool_of(lines, m + 1, MONTHS);
@@ -57,7 +57,7 @@ fn sides_at(lines: [Line; MONTHS], m: usize) -> Sides
 
 // Whether there is a finding on both sides.
 fn both_sides(s: Sides) -> bool
-    ensures { result ≡ bothSides s }
+    ensures { result ≡ both_sides s }
 {
     (0 < s.upto.findings) & (0 < s.later.findings)
 }
@@ -97,7 +97,7 @@ fn is_better(s: Sides, has: bool, t: Sides) -> bool
 // The bend.
 pub fn bend_of(lines: [Line; MONTHS]) -> Bend
     requires { Counted lines }
-    ensures { result ≡ bendOf lines }
+    ensures { result ≡ bend_of lines }
 {
     let mut has = false;
     let mut best = 0;

@@ -3,8 +3,8 @@
 // past the end reads as 0.
 ghost use Rattle.std.specs.Prelude.{◌≡◌};
 ghost use Rattle.year.specs.Months.{share_of, bits_of};
-ghost use Rattle.year.specs.Bends.{bendNumber};
-ghost use Rattle.year.specs.Year.{table_of, noTable, yearOf};
+ghost use Rattle.year.specs.Bends.{bend_number};
+ghost use Rattle.year.specs.Year.{table_of, no_table, year_of};
 ghost use Rattle.year.specs.Asks.{Small};
 
 mod bends;
@@ -86,7 +86,7 @@ pub fn bits(s: Share) -> u64
 
 // The month of a bend, 0 for none.
 pub fn bend_number(b: Bend) -> u8
-    ensures { result ≡ bendNumber b }
+    ensures { result ≡ bend_number b }
 {
     match b {
         Bend::After(m) => m,
@@ -106,7 +106,7 @@ fn table_of(file: &[u8], c: Closings) -> Table
 
 // The table of one that was turned down.
 fn no_table() -> Table
-    ensures { result ≡ noTable }
+    ensures { result ≡ no_table }
 {
     let none = months::line_of(0, 0);
     let lines = [none; MONTHS];
@@ -118,7 +118,7 @@ fn no_table() -> Table
 
 // The whole answer.
 pub fn year_of(file: &[u8]) -> Year
-    ensures { result ≡ yearOf file.now }
+    ensures { result ≡ year_of file.now }
 {
     let number = rules::check(file);
     if number != 0 {

@@ -1,8 +1,8 @@
 // The lines of a table (02, W4): a month's findings, the dismissed ones and the rate.
 ghost use Rattle.std.specs.Prelude.{◌≡◌, ◌≤◌, ◌<◌, cond};
-ghost use Rattle.year.specs.Ledger.{findingCount, monthMost, monthCount};
-ghost use Rattle.year.specs.Months.{counts, isDismissed, found, dismissed, rateOf, line_of};
-ghost use Rattle.year.specs.Year.{monthLine, lines_of};
+ghost use Rattle.year.specs.Ledger.{finding_count, month_most, month_count};
+ghost use Rattle.year.specs.Months.{counts, is_dismissed, found, dismissed, rate_of, line_of};
+ghost use Rattle.year.specs.Year.{month_line, lines_of};
 ghost use Rattle.year.specs.Asks.{Small};
 
 use crate::{Closings, Line, MONTHS, rules};
@@ -25,7 +25,7 @@ fn is_counted(f: &[u8], c: Closings) -> bool
 }
 
 fn is_dismissed(f: &[u8]) -> bool
-    ensures { result ≡ isDismissed f.now }
+    ensures { result ≡ is_dismissed f.now }
 {
     wire::byte(f, rules::VERDICT_AT) == 1
 }
@@ -38,7 +38,7 @@ fn one(so: bool) -> u32
 }
 
 fn counts_of(month: &[u8], c: Closings) -> Counts
-    requires { findingCount month.now ≤ monthMost }
+    requires { finding_count month.now ≤ month_most }
     ensures findings { result.findings ≡ found c month.now }
     ensures dismissed { result.dismissed ≡ dismissed c month.now }
 {
@@ -61,7 +61,7 @@ fn counts_of(month: &[u8], c: Closings) -> Counts
 
 // The one division of the two counts, each an f64 without loss.
 fn rate_of(findings: u32, dismissed: u32) -> f64
-    ensures { result ≡ rateOf findings dismissed }
+    ensures { result ≡ rate_of findings dismissed }
 {
     (dismissed as f64) / (findings as f64)
 }
@@ -85,8 +85,8 @@ pub fn line_of(findings: u32, dismissed: u32) -> Line
 
 // The line of month m.
 fn month_line(file: &[u8], c: Closings, m: usize) -> Line
-    requires { Small file.now × m < monthCount }
-    ensures { result ≡ monthLine c file.now m }
+    requires { Small file.now × m < month_count }
+    ensures { result ≡ month_line c file.now m }
 {
     let n = counts_of(rules::body_of(file, m as u8), c);
     line_of(n.findings, n.dismissed)

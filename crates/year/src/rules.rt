@@ -1,9 +1,9 @@
 // When a ledger is turned down (02, W4): 21 to 24 in this order.
 ghost use Rattle.std.specs.Prelude.{◌≡◌, ◌<◌};
-ghost use Rattle.wire.specs.Places.{firstBad};
+ghost use Rattle.wire.specs.Places.{first_bad};
 ghost use Rattle.contents.specs.Contents.{body_of};
-ghost use Rattle.year.specs.Ledger.{monthCount, findingCount, findingAt, valuesOk, kept, keptIn, monthsOk};
-ghost use Rattle.year.specs.Ledger.{ledgerNumber};
+ghost use Rattle.year.specs.Ledger.{month_count, finding_count, finding_at, values_ok, kept, kept_in, months_ok};
+ghost use Rattle.year.specs.Ledger.{ledger_number};
 
 // The months as entries of the contents table, and the table's size.
 const BODIES: u8 = 12;
@@ -43,21 +43,21 @@ pub fn body_of(file: &[u8], m: u8) -> &[u8]
 
 // How many findings a month has, and the bytes of one.
 pub fn finding_count(month: &[u8]) -> usize
-    ensures { result ≡ findingCount month.now }
+    ensures { result ≡ finding_count month.now }
 {
     month.len() / FINDING_SIZE
 }
 
 pub fn finding_at(month: &[u8], k: usize) -> &[u8]
-    requires { k < findingCount month.now }
-    ensures { result.now ≡ findingAt month.now k }
+    requires { k < finding_count month.now }
+    ensures { result.now ≡ finding_at month.now k }
 {
     wire::part(month, FINDING_SIZE * k, FINDING_SIZE)
 }
 
 // The values of a finding.
 fn values_ok(f: &[u8]) -> bool
-    ensures { result ≡ valuesOk f.now }
+    ensures { result ≡ values_ok f.now }
 {
     (wire::byte(f, BLOCK_AT) <= 63)
         & (wire::byte(f, ZERO_AT) == 0)
@@ -67,8 +67,8 @@ fn values_ok(f: &[u8]) -> bool
 
 // The first finding of a month with a wrong value, or how many there are.
 fn first_wrong(month: &[u8]) -> usize
-    ensures { result ≡ firstBad (λ k. valuesOk (findingAt month.now k))
-        (findingCount month.now) }
+    ensures { result ≡ first_bad (λ k. values_ok (finding_at month.now k))
+        (finding_count month.now) }
 {
     let n = finding_count(month);
     let mut k = 0;
@@ -94,7 +94,7 @@ fn keeps(month: &[u8], a: MonthRule) -> bool
 
 // The first month that does not keep it, or how many there are.
 fn first_broken(file: &[u8], a: MonthRule) -> u8
-    ensures { result ≡ firstBad (keptIn a file.now) monthCount }
+    ensures { result ≡ first_bad (kept_in a file.now) month_count }
 {
     let mut m = 0;
     while m < BODIES {
@@ -107,14 +107,14 @@ fn first_broken(file: &[u8], a: MonthRule) -> u8
 }
 
 fn months_ok(file: &[u8], a: MonthRule) -> bool
-    ensures { result ≡ monthsOk a file.now }
+    ensures { result ≡ months_ok a file.now }
 {
     first_broken(file, a) == BODIES
 }
 
 // The number with which a ledger is turned down, 0 where it is accepted.
 pub fn check(file: &[u8]) -> u8
-    ensures { result ≡ ledgerNumber file.now }
+    ensures { result ≡ ledger_number file.now }
 {
     if file.len() < CONTENTS_SIZE {
         return 21;

@@ -2,11 +2,11 @@
 // number (02, W4). The crate `year` measures, `report` makes a month's line from its numbers; here the text is put
 // together, and written at once.
 ghost use Rattle.std.specs.Prelude.{◌≡◌, ◌+◌, ◌*◌, ◌≤◌, length};
-ghost use Rattle.report.specs.Lines.{lineMost, Printed, Put};
-ghost use Rattle.year.specs.Ledger.{monthCount};
-ghost use Rattle.yearbook.specs.Text.{titleOf, monthText, bendText, monthsText, tableText, yearText};
-ghost use Rattle.yearbook.specs.Text.{ledgerText, toldNumber};
-ghost use Rattle.yearbook.specs.Asks.{tableMost, textMost};
+ghost use Rattle.report.specs.Lines.{line_most, Printed, Put};
+ghost use Rattle.year.specs.Ledger.{month_count};
+ghost use Rattle.yearbook.specs.Text.{title_of, month_text, bend_text, months_text, table_text, year_text};
+ghost use Rattle.yearbook.specs.Text.{ledger_text, told_number};
+ghost use Rattle.yearbook.specs.Asks.{table_most, text_most};
 
 use libc::STDOUT_FILENO;
 use report::LINE_MOST;
@@ -22,7 +22,7 @@ const TEXT_MOST: usize = LINE_MOST * 28;
 
 // The line above a table.
 fn title_line(out: &mut [u8], c: Closings) -> usize
-    ensures { Printed (titleOf c) out.old out.new result }
+    ensures { Printed (title_of c) out.old out.new result }
 {
     match c {
         Closings::Every => {
@@ -38,7 +38,7 @@ fn title_line(out: &mut [u8], c: Closings) -> usize
 
 // The line of a month, counted from 1.
 fn month_line(out: &mut [u8], month: u8, l: Line) -> usize
-    ensures { Printed (monthText month l) out.old out.new result }
+    ensures { Printed (month_text month l) out.old out.new result }
 {
     let share = year::share_of(l);
     let bits = year::bits(share);
@@ -50,7 +50,7 @@ fn month_line(out: &mut [u8], month: u8, l: Line) -> usize
 
 // The line of a bend.
 fn bend_line(out: &mut [u8], b: Bend) -> usize
-    ensures { Printed (bendText b) out.old out.new result }
+    ensures { Printed (bend_text b) out.old out.new result }
 {
     match b {
         Bend::After(month) => report::bend_line(out, month),
@@ -63,9 +63,9 @@ fn bend_line(out: &mut [u8], b: Bend) -> usize
 
 // The lines of the twelve months, from `at` on. Answers the place behind them.
 fn month_lines(out: &mut [u8], at: usize, lines: [Line; MONTHS]) -> usize
-    requires { (at ≤ tableMost + lineMost) × (length out.old ≡ textMost) }
-    ensures put { Put (monthsText lines monthCount) out.old at out.new result }
-    ensures upper_bound { result ≤ at + lineMost * monthCount }
+    requires { (at ≤ table_most + line_most) × (length out.old ≡ text_most) }
+    ensures put { Put (months_text lines month_count) out.old at out.new result }
+    ensures upper_bound { result ≤ at + line_most * month_count }
 {
     let mut next = at;
     let mut m = 0;
@@ -80,9 +80,9 @@ fn month_lines(out: &mut [u8], at: usize, lines: [Line; MONTHS]) -> usize
 
 // A table's lines, from `at` on. Answers the place behind them.
 fn table_lines(out: &mut [u8], at: usize, c: Closings, t: Table) -> usize
-    requires { (at ≤ tableMost) × (length out.old ≡ textMost) }
-    ensures put { Put (tableText c t) out.old at out.new result }
-    ensures upper_bound { result ≤ at + tableMost }
+    requires { (at ≤ table_most) × (length out.old ≡ text_most) }
+    ensures put { Put (table_text c t) out.old at out.new result }
+    ensures upper_bound { result ≤ at + table_most }
 {
     let title_end = at + LINE_MOST;
     let first = at + title_line(&mut out[at..title_end], c);
@@ -95,9 +95,9 @@ fn table_lines(out: &mut [u8], at: usize, c: Closings, t: Table) -> usize
 
 // The whole text. Answers its length.
 fn year_lines(out: &mut [u8], y: Year) -> usize
-    requires { length out.old ≡ textMost }
-    ensures put { Put (yearText y) out.old 0 out.new result }
-    ensures upper_bound { result ≤ textMost }
+    requires { length out.old ≡ text_most }
+    ensures put { Put (year_text y) out.old 0 out.new result }
+    ensures upper_bound { result ≤ text_most }
 {
     if y.number != 0 {
         return report::refused_line(out, y.number);
@@ -110,14 +110,14 @@ fn year_lines(out: &mut [u8], y: Year) -> usize
 
 // Writes what is told of a ledger. It is given no other text.
 fn write_text(file: &[u8], text: &[u8])
-    requires { text.now ≡ ledgerText file.now }
+    requires { text.now ≡ ledger_text file.now }
 {
     io::write_all(STDOUT_FILENO, text);
 }
 
 // Tells of a ledger. Answers the number with which it is turned down, or 0.
 pub fn tell(file: &[u8]) -> u8
-    ensures { result ≡ toldNumber file.now }
+    ensures { result ≡ told_number file.now }
 {
     let mut text = [0u8; TEXT_MOST];
     if FILE_MOST < file.len() {

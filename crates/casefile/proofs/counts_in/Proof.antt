@@ -1,12 +1,12 @@
 -- `casefile::counts_in` meets its contract: the bodies are those of the file's project.
 use Rattle.wire.proofs.Usual.{ap, ◌∙◌, needs}
-use Rattle.project.specs.Project.{countsIn}
+use Rattle.project.specs.Project.{counts_in}
 use Rattle.casefile.proofs.Handed.{bodies-are}
 use Rattle.casefile.proofs.counts_in.Statement.{statement}
 use Rattle.casefile.proofs.counts_in.Tie as tie
 
-pub counts-in-spec : {M : Type 1} → statement M
-counts-in-spec = tie.close (tie.spec
+pub counts_in_spec : {M : Type 1} → statement M
+counts_in_spec = tie.close (tie.spec
     (λ c κs. search needs) (λ c κs. search needs) (λ c κs. search needs) (λ c κs. search needs)
     (λ c κs. search needs) (λ c κs. search needs)
     (λ c.
@@ -15,5 +15,5 @@ counts-in-spec = tie.close (tie.spec
     let n = b.before in
     let g = n.before in
     c.Counts-of.ensures
-    ∙ ap countsIn (bodies-are _ g.before.starts-of.ensures.0 g.body.ensures n.body2.ensures
+    ∙ ap counts_in (bodies-are _ g.before.starts-of.ensures.0 g.body.ensures n.body2.ensures
     b.body3.ensures o.body4.ensures)))

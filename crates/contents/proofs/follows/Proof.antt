@@ -1,12 +1,12 @@
 -- `contents::follows` meets its contract: whether the file has both entries or not, their numbers are the same.
 use Rattle.wire.proofs.Usual.{needs}
-use Rattle.contents.specs.Contents.{bodyStart, bodySize, followsOk}
+use Rattle.contents.specs.Contents.{body_start, body_size, follows_ok}
 use Rattle.contents.proofs.follows.Statement.{statement}
 use Rattle.contents.proofs.follows.Tie as tie
 
-pub follows-spec : {M : Type 1} → statement M
-unfolding followsOk bodyStart bodySize
-follows-spec = tie.close (tie.spec
+pub follows_spec : {M : Type 1} → statement M
+unfolding follows_ok body_start body_size
+follows_spec = tie.close (tie.spec
     (λ c. search needs) (λ c. search needs) (λ c. search needs) (λ c. search needs) (λ c. search needs)
     (λ c κs. search needs) (λ c. search needs) (λ c κs. search needs) (λ c. search needs) (λ c κs. search needs)
     (λ c. search needs) (λ c. search needs)

@@ -2,7 +2,7 @@
 -- cycle was run (`Calls`).
 use Rattle.wire.proofs.Usual.{◌≡◌, sym, ◌∙◌, subst, needs, now}
 use Rattle.project.specs.Project.{Project}
-use Rattle.casefile.specs.Bodies.{projectOf}
+use Rattle.casefile.specs.Bodies.{project_of}
 use Rattle.casefile.proofs.Handed.{bodies, bodies-are}
 use Rattle.evaluator.specs.Answer.{Lent, Left, lends, refusal}
 use Rattle.evaluator.proofs.Calls.{call-refused, call-made, Passed, admitted, call-passed, call-taken}
@@ -60,57 +60,57 @@ no_number : (c : tie.Else1) →
 no_number c = sym c.before.call-refusal.ensures ∙ c.if1.false
 
 -- the project of the bodies that were handed out is the file's
-abbrev else-of : tie.After-counts-of → tie.Else1
-else-of c = c.before.before.before.before.before
+abbrev else_of : tie.After-counts-of → tie.Else1
+else_of c = c.before.before.before.before.before
 
-abbrev project-of : tie.After-counts-of → Project
-project-of c =
+abbrev project_is : tie.After-counts-of → Project
+project_is c =
     let o = c.before in
     let b = o.before in
     let n = b.before in
     bodies (now n.before.body.result) (now n.body2.result) (now b.body3.result) (now o.body4.result)
 
-is-project : (c : tie.After-counts-of) → project-of c ≡ projectOf (now (start_of (else-of c).before).args.file)
-is-project c =
+is_project : (c : tie.After-counts-of) → project_is c ≡ project_of (now (start_of (else_of c).before).args.file)
+is_project c =
     let o = c.before in
     let b = o.before in
     let n = b.before in
-    let t = (else-of c).before.before.before.before.before in
+    let t = (else_of c).before.before.before.before.before in
     bodies-are _ t.starts-of.ensures.0 n.before.body.ensures n.body2.ensures b.body3.ensures
     o.body4.ensures
 
-whole-cycle-requires : tie.Need-whole-cycle-requires
-whole-cycle-requires c κs =
+whole_cycle_requires : tie.Need-whole-cycle-requires
+whole_cycle_requires c κs =
     let k = c.before.before.before in
-    let d = else-of k in
+    let d = else_of k in
     let a = (start_of d.before).args in
     let F = now a.file in
     let R = now a.rec in
     let L = lent_of d.before in
     let z = no_number d in
-    let p = sym (is-project k) in
-    admitted (project-of k) R L k.Counts-of.result k.Counts-of.ensures (subst Taken p (call-taken F R L z))
+    let p = sym (is_project k) in
+    admitted (project_is k) R L k.Counts-of.result k.Counts-of.ensures (subst Taken p (call-taken F R L z))
     (subst (λ (q : Project). Passed q R L) p (call-passed F R L z))
 
-returns-2 : tie.Need-returns-2
-returns-2 c =
+returns_2 : tie.Need-returns-2
+returns_2 c =
     let w = c.before.before.before.before.before.before in
     let k = w.before.before.before.before in
-    let d = else-of k in
+    let d = else_of k in
     let a = (start_of d.before).args in
     let r = w.whole-cycle.ensures in
     all-four
-    (call-made (now a.file) (now a.rec) (lent_of d.before) (project-of k) _ _ _ _ (no_number d) (is-project k)
+    (call-made (now a.file) (now a.rec) (lent_of d.before) (project_is k) _ _ _ _ (no_number d) (is_project k)
     r.1.1.1 r.0 r.1.0 r.1.1.0)
 
-pub cycle-spec : {M : Type 1} → statement M
-cycle-spec = tie.close (tie.spec
+pub cycle_spec : {M : Type 1} → statement M
+cycle_spec = tie.close (tie.spec
     (λ c κs. search needs)
     (λ c κs. c.before.before.before.starts-of.ensures.0)
     (λ c κs. search needs) (λ c. search needs) (λ c. search needs) (λ c. search needs)
     returns
     (λ c κs. search needs) (λ c κs. search needs) (λ c κs. search needs) (λ c κs. search needs)
     (λ c κs. search needs)
-    whole-cycle-requires
+    whole_cycle_requires
     (λ c. search needs) (λ c. search needs) (λ c. search needs)
-    returns-2)
+    returns_2)

@@ -3,9 +3,9 @@
 use Rattle.wire.proofs.Usual.{◌≡◌, sym, ap, ◌∙◌, ◌<◌, arith, needs, now}
 use Rattle.evaluator.specs.declared.Answer.TheVariants.{Findings, Refused}
 use Rattle.evaluator.specs.Answer.{Left}
-use Rattle.hagglethwait.specs.Calls.{call_of, answerNumber}
+use Rattle.hagglethwait.specs.Calls.{call_of, answer_number}
 use Rattle.evaluator.proofs.Few.{few-found}
-use Rattle.hagglethwait.proofs.Signs.{count_fits, count-is, minus-fits, minus_is}
+use Rattle.hagglethwait.proofs.Signs.{count_fits, count_is, minus-fits, minus_is}
 use Rattle.hagglethwait.proofs.hagglethwait_cycle.Statement.{statement}
 use Rattle.hagglethwait.proofs.hagglethwait_cycle.Tie as tie
 
@@ -37,13 +37,13 @@ module _ (c : tie.After-known-told2) where
   byte = search needs
 
 returns : tie.Need-returns
-returns c = (count-is _ (small c) ∙ ap answerNumber (counted c), (called c).cycle.ensures.1)
+returns c = (count_is _ (small c) ∙ ap answer_number (counted c), (called c).cycle.ensures.1)
 
-returns-2 : tie.Need-returns-2
-returns-2 c = (minus_is _ (byte c) ∙ ap answerNumber (refused c), (called2 c).cycle.ensures.1)
+returns_2 : tie.Need-returns-2
+returns_2 c = (minus_is _ (byte c) ∙ ap answer_number (refused c), (called2 c).cycle.ensures.1)
 
-pub hagglethwait-cycle-spec : {M : Type 1} → statement M
-hagglethwait-cycle-spec = tie.close (tie.spec
+pub hagglethwait_cycle_spec : {M : Type 1} → statement M
+hagglethwait_cycle_spec = tie.close (tie.spec
     (λ c κs. search needs) (λ c. search needs)
     (λ c. count_fits _ (small c))
     (λ c. search needs) (λ c. search needs)
@@ -51,4 +51,4 @@ hagglethwait-cycle-spec = tie.close (tie.spec
     (λ c. search needs) (λ c. search needs) (λ c. search needs)
     returns
     (λ c. search needs) (λ c. search needs) (λ c. search needs)
-    returns-2)
+    returns_2)

@@ -14,8 +14,8 @@ invariant-loop text out₀ at i₀ to₀ out i to = length out ≡ length out₀
 abbrev decreases-loop : tie.decreases-loop
 decreases-loop text out₀ at i₀ to₀ out i to = length text - i
 
-pub append-spec : {M : Type 1} → statement M
-append-spec = tie.close (tie.spec
+pub append_spec : {M : Type 1} → statement M
+append_spec = tie.close (tie.spec
     invariant-loop decreases-loop
     (λ c. search rules) (λ c. search rules) (λ c. search rules) (λ c. search rules) (λ c. search rules)
     (λ c. search rules) (λ c. search rules) (λ c. search rules) (λ c. search rules) (λ c. search rules)

@@ -14,8 +14,8 @@ invariant-loop vectors out₀ done₀ at₀ out done at = (done ≤ length vecto
 abbrev decreases-loop : tie.decreases-loop
 decreases-loop vectors out₀ done₀ at₀ out done at = length vectors - done
 
-pub lines-spec : {M : Type 1} → statement M
-lines-spec = tie.close (tie.spec
+pub lines_spec : {M : Type 1} → statement M
+lines_spec = tie.close (tie.spec
     invariant-loop decreases-loop
     (λ c. search rules) (λ c. search rules) (λ c. search rules) (λ c. search rules) (λ c. search rules)
     (λ c κs. search rules) (λ c. search rules) (λ c. search rules) (λ c. search rules) (λ c. search rules)

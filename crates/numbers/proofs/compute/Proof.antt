@@ -3,8 +3,8 @@ use borrow.Author.Rules.{rules}
 use Rattle.numbers.proofs.compute.Statement.{statement}
 use Rattle.numbers.proofs.compute.Tie as tie
 
-pub compute-spec : {M : Type 1} → statement M
-compute-spec = tie.close (tie.spec
+pub compute_spec : {M : Type 1} → statement M
+compute_spec = tie.close (tie.spec
     (λ c. search rules) (λ c κs. search rules) (λ c. search rules) (λ c κs. search rules) (λ c. search rules)
     (λ c κs. search rules) (λ c. search rules) (λ c κs. search rules)
     (λ c. rw c.before.enum_told.given.1 c.sum.ensures)

@@ -6,9 +6,9 @@ use borrow.Author.Rules.{rules}
 use Rattle.numbers.proofs.difference.Statement.{statement}
 use Rattle.numbers.proofs.difference.Tie as tie
 
-pub difference-spec : {M : Type 1} → statement M
+pub difference_spec : {M : Type 1} → statement M
 unfolding exact
-difference-spec = tie.close (tie.spec
+difference_spec = tie.close (tie.spec
     (λ c κs. search rules) (λ c κs. search rules)
     (λ c κs.
     let a = c.before.before.args in (

@@ -3,8 +3,8 @@ use borrow.Author.Rules.{rules}
 use Rattle.numbers.proofs.fits.Statement.{statement}
 use Rattle.numbers.proofs.fits.Tie as tie
 
-pub fits-spec : {M : Type 1} → statement M
-fits-spec = tie.close (tie.spec
+pub fits_spec : {M : Type 1} → statement M
+fits_spec = tie.close (tie.spec
     (λ c. search rules) (λ c κs. search rules) (λ c. search rules) (λ c κs. search rules) (λ c. search rules)
     (λ c κs. search rules) (λ c. search rules) (λ c κs. search rules)
     (λ c. rw c.before.enum_told.given.1 c.is_among.ensures)

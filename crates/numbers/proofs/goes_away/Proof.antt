@@ -4,8 +4,8 @@ use borrow.Author.Rules.{rules}
 use Rattle.numbers.proofs.goes_away.Statement.{statement}
 use Rattle.numbers.proofs.goes_away.Tie as tie
 
-pub goes-away-spec : {M : Type 1} → statement M
-goes-away-spec = tie.close (tie.spec
+pub goes_away_spec : {M : Type 1} → statement M
+goes_away_spec = tie.close (tie.spec
     (λ c. search rules) (λ c. search rules) (λ c. search rules) (λ c. search rules) (λ c. search rules)
     (λ c. search rules)
     (λ c. rw (c.before.enum-told2.given.1, c.if1.false))

@@ -6,9 +6,9 @@ use borrow.Author.Rules.{rules}
 use Rattle.numbers.proofs.product.Statement.{statement}
 use Rattle.numbers.proofs.product.Tie as tie
 
-pub product-spec : {M : Type 1} → statement M
+pub product_spec : {M : Type 1} → statement M
 unfolding exact
-product-spec = tie.close (tie.spec
+product_spec = tie.close (tie.spec
     (λ c κs. search rules) (λ c κs. search rules)
     (λ c κs.
     let a = c.before.before.args in (

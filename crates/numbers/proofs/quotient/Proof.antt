@@ -6,9 +6,9 @@ use borrow.Author.Rules.{rules}
 use Rattle.numbers.proofs.quotient.Statement.{statement}
 use Rattle.numbers.proofs.quotient.Tie as tie
 
-pub quotient-spec : {M : Type 1} → statement M
+pub quotient_spec : {M : Type 1} → statement M
 unfolding exact
-quotient-spec = tie.close (tie.spec
+quotient_spec = tie.close (tie.spec
     (λ c κs. search rules) (λ c κs. search rules)
     (λ c κs. let a = c.before.before.args in small a.ta a.a c.before.load.ensures (search rules))
     (λ c κs. search rules)

@@ -1,13 +1,13 @@
 -- `numbers::rounding_of` is the rounding of the byte: each arm is the definition at that byte, and the last one at none
 -- of the others. Assumes nothing.
 use borrow.Author.Tests.{ne_eqb}
-use Rattle.numbers.specs.Results.{roundingOf}
+use Rattle.numbers.specs.Results.{rounding_of}
 use Rattle.numbers.proofs.rounding_of.Statement.{statement}
 use Rattle.numbers.proofs.rounding_of.Tie as tie
 
-pub rounding-of-spec : {M : Type 1} → statement M
-unfolding roundingOf
-rounding-of-spec = tie.close (tie.spec
+pub rounding_of_spec : {M : Type 1} → statement M
+unfolding rounding_of
+rounding_of_spec = tie.close (tie.spec
     (λ c. rw c.match.keys1)
     (λ c. rw c.match.keys2)
     (λ c.

@@ -6,9 +6,9 @@ use borrow.Author.Rules.{rules}
 use Rattle.numbers.proofs.sum.Statement.{statement}
 use Rattle.numbers.proofs.sum.Tie as tie
 
-pub sum-spec : {M : Type 1} → statement M
+pub sum_spec : {M : Type 1} → statement M
 unfolding exact
-sum-spec = tie.close (tie.spec
+sum_spec = tie.close (tie.spec
     (λ c κs. search rules) (λ c κs. search rules)
     (λ c κs.
     let a = c.before.before.args in (

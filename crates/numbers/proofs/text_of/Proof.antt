@@ -5,9 +5,9 @@ use Rattle.numbers.specs.Results.{text_of}
 use Rattle.numbers.proofs.text_of.Statement.{statement}
 use Rattle.numbers.proofs.text_of.Tie as tie
 
-pub text-of-spec : {M : Type 1} → statement M
+pub text_of_spec : {M : Type 1} → statement M
 unfolding text_of
-text-of-spec = tie.close (tie.spec
+text_of_spec = tie.close (tie.spec
     (λ c. rw c.match.keys1)
     (λ c. rw c.match.keys2)
     (λ c.

@@ -2,17 +2,17 @@
 -- Assumes nothing.
 use mathlib.Core.Path.{sym}
 use borrow.Author.Rules.{rules}
-use Rattle.numbers.proofs.Laws.{sgn-mul, below}
+use Rattle.numbers.proofs.Laws.{sgn_mul, below}
 use Rattle.numbers.proofs.times.Statement.{statement}
 use Rattle.numbers.proofs.times.Tie as tie
 
 returns : tie.Need-returns
 returns c =
     let x = c.before.before.before.args in
-    rw c.before.before.opposed.ensures (sym (sgn-mul x.a.neg x.b.neg x.a.mag x.b.mag))
+    rw c.before.before.opposed.ensures (sym (sgn_mul x.a.neg x.b.neg x.a.mag x.b.mag))
 
-pub times-spec : {M : Type 1} → statement M
-times-spec = tie.close (tie.spec
+pub times_spec : {M : Type 1} → statement M
+times_spec = tie.close (tie.spec
     (λ c κs. search rules)
     (λ c. record { fits = below 32 (search rules) (search rules) })
     returns)

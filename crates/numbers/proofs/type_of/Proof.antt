@@ -5,9 +5,9 @@ use Rattle.numbers.specs.Types.{type_of}
 use Rattle.numbers.proofs.type_of.Statement.{statement}
 use Rattle.numbers.proofs.type_of.Tie as tie
 
-pub type-of-spec : {M : Type 1} → statement M
+pub type_of_spec : {M : Type 1} → statement M
 unfolding type_of
-type-of-spec = tie.close (tie.spec
+type_of_spec = tie.close (tie.spec
     (λ c. rw c.match.keys1)
     (λ c. rw c.match.keys2)
     (λ c. rw c.match.keys3)

@@ -4,6 +4,6 @@ use Rattle.project.specs.Project.{device}
 use Rattle.project.proofs.device_in.Statement.{statement}
 use Rattle.project.proofs.device_in.Tie as tie
 
-pub device-in-spec : {M : Type 1} → statement M
+pub device_in_spec : {M : Type 1} → statement M
 unfolding device
-device-in-spec = tie.close (tie.spec (λ c κs. search needs) (λ c. cc))
+device_in_spec = tie.close (tie.spec (λ c κs. search needs) (λ c. cc))

@@ -6,9 +6,9 @@ use Rattle.project.proofs.Records.{before, row-none, row-past}
 use Rattle.project.proofs.far_record.Statement.{statement}
 use Rattle.project.proofs.far_record.Tie as tie
 
-pub far-record-spec : {M : Type 1} → statement M
+pub far_record_spec : {M : Type 1} → statement M
 unfolding row_of
-far-record-spec = tie.close (tie.spec
+far_record_spec = tie.close (tie.spec
     (λ c. search needs)
     (λ c. row-none _ _ _ c.before.if1.true)
     (λ c. search needs) (λ c. search needs)

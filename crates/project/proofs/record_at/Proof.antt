@@ -5,9 +5,9 @@ use Rattle.project.proofs.Records.{small}
 use Rattle.project.proofs.record_at.Statement.{statement}
 use Rattle.project.proofs.record_at.Tie as tie
 
-pub record-at-spec : {M : Type 1} → statement M
+pub record_at_spec : {M : Type 1} → statement M
 unfolding row_of
-record-at-spec = tie.close (tie.spec
+record_at_spec = tie.close (tie.spec
     (λ c κs. search needs)
     (λ c. c.far-record.ensures)
     (λ c κs. search needs)

@@ -11,8 +11,8 @@ invariant-loop records done₀ done = done ≤ length records
 abbrev decreases-loop : tie.decreases-loop
 decreases-loop records done₀ done = length records - done
 
-pub lines-spec : {M : Type 1} → statement M
-lines-spec = tie.close (tie.spec
+pub lines_spec : {M : Type 1} → statement M
+lines_spec = tie.close (tie.spec
     invariant-loop decreases-loop
     (λ c. search needs) (λ c. search needs) (λ c. search needs) (λ c. search needs) (λ c. search needs)
     (λ c κs. search needs) (λ c. search needs) (λ c. search needs) (λ c. search needs) (λ c. search needs))

@@ -4,13 +4,13 @@ use Rattle.wire.proofs.Usual.{sym, arith, needs, length-take-le}
 use Rattle.report_lines.proofs.print.Statement.{statement}
 use Rattle.report_lines.proofs.print.Tie as tie
 
-slice-aggregate-write-all : tie.Need-slice-aggregate-write-all
-slice-aggregate-write-all c =
+slice_aggregate_write_all : tie.Need-slice-aggregate-write-all
+slice_aggregate_write_all c =
     let line = c.before.before.line in
     sym (length-take-le line.result line.new.1.0 (omega (arith, line.auto.1.0, line.ensures)))
 
-pub print-spec : {M : Type 1} → statement M
-print-spec = tie.close (tie.spec
+pub print_spec : {M : Type 1} → statement M
+print_spec = tie.close (tie.spec
     (λ c. search needs) (λ c κs. search needs) (λ c. search needs)
-    slice-aggregate-write-all
+    slice_aggregate_write_all
     (λ c κs. search needs) (λ c. search needs))

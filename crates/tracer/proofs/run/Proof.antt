@@ -2,12 +2,12 @@
 -- turn takes the first of them.
 use Rattle.wire.proofs.Usual.{◌≡◌, refl, sym, ap, ◌∙◌, List, ℕ, ◌-◌, ◌*◌, ◌≤◌, ◌<◌, arith, needs, length}
 use Rattle.wire.proofs.Usual.{replicate, length-replicate, now}
-use Rattle.casefile.specs.Bodies.{projectOf, recordOf}
-use Rattle.evaluator.specs.State.{stateLength, findingsLength}
+use Rattle.casefile.specs.Bodies.{project_of, record_of}
+use Rattle.evaluator.specs.State.{state_length, findings_length}
 use Rattle.evaluator.proofs.FreshFormed.{fresh-length}
-use Rattle.tracer.proofs.Starting.{standing-of, grouped-of, listed_of, begun-of, size-some, count-is}
-use Rattle.tracer.proofs.Starting.{record_is, few-records}
-use Rattle.tracer.proofs.Turning.{Here, formed-here, begins, ran, call, Turned, turned, tells}
+use Rattle.tracer.proofs.Starting.{standing-of, grouped-of, listed_of, begun-of, size-some, count_is}
+use Rattle.tracer.proofs.Starting.{record_is, few_records}
+use Rattle.tracer.proofs.Turning.{Here, formed_here, begins, ran, call, Turned, turned, tells}
 use Rattle.tracer.proofs.Turning.{finds-few, finds-none, goes_on, stops}
 use Rattle.tracer.proofs.run.Statement.{statement}
 use Rattle.tracer.proofs.run.Tie as tie
@@ -29,70 +29,70 @@ abbrev start_of : tie.At-loop invariant-loop decreases-loop → tie.Start invari
 start_of c = c.before.before.before.before.before.before.before.before.before.before.before
 
 -- the state has its size
-state-fits : (c : tie.At-loop invariant-loop decreases-loop) →
-    let P = projectOf (now (start_of c).args.file) in
-    length c.loop.state ≡ stateLength P.groups P.blocks
-state-fits c =
+state_fits : (c : tie.At-loop invariant-loop decreases-loop) →
+    let P = project_of (now (start_of c).args.file) in
+    length c.loop.state ≡ state_length P.groups P.blocks
+state_fits c =
     let s = start_of c in
-    c.loop.invariant.2 ∙ ap length s.pre.1.0 ∙ fresh-length (projectOf (now s.args.file))
+    c.loop.invariant.2 ∙ ap length s.pre.1.0 ∙ fresh-length (project_of (now s.args.file))
 
-loop-holds : tie.Need-loop-init invariant-loop decreases-loop
-loop-holds c =
+loop_holds : tie.Need-loop-init invariant-loop decreases-loop
+loop_holds c =
     let s = c.before.before.before.before.before.before.before.before.before.before in
     let F = now s.args.file in
-    let n = c.record-count.ensures ∙ count-is s.requires.0 in
+    let n = c.record-count.ensures ∙ count_is s.requires.0 in
     (omega arith, omega arith, refl, refl, refl, begins F _ s.requires.0.accepted n s.requires.1.0)
 
-errors-requires : tie.Need-groups-in-error-requires invariant-loop decreases-loop
-errors-requires c κs =
+errors_requires : tie.Need-groups-in-error-requires invariant-loop decreases-loop
+errors_requires c κs =
     let l = c.before.before.before in
     let s = (start_of l).requires.0 in
-    (standing-of s l.loop.state (state-fits l), grouped-of s)
+    (standing-of s l.loop.state (state_fits l), grouped-of s)
 
 -- what the step has to be given
-step-requires : tie.Need-step-requires invariant-loop decreases-loop
-step-requires c κs =
+step_requires : tie.Need-step-requires invariant-loop decreases-loop
+step_requires c κs =
     let g = c.before.before.before in
     let l = g.before.before.before.before in
     let s = (start_of l).requires.0 in (
       listed_of s,
-      begun-of s _ l.loop.state l.loop.findings g.groups-in-error.ensures (state-fits l)
-          (formed-here l.loop.invariant.5) (l.loop.invariant.3 ∙ s.clean),
+      begun-of s _ l.loop.state l.loop.findings g.groups-in-error.ensures (state_fits l)
+          (formed_here l.loop.invariant.5) (l.loop.invariant.3 ∙ s.clean),
     )
 
 -- the loop's place before a step
-abbrev loop-of : tie.After-step invariant-loop decreases-loop → tie.At-loop invariant-loop decreases-loop
-loop-of c = c.before.before.before.before.before.before.before.before
+abbrev loop_of : tie.After-step invariant-loop decreases-loop → tie.At-loop invariant-loop decreases-loop
+loop_of c = c.before.before.before.before.before.before.before.before
 
 -- the buffers keep their lengths
-state-long : (c : tie.After-step invariant-loop decreases-loop) →
-    length c.step.new.1.1.1.1.1.1.1.0 ≡ length (loop-of c).loop.state
-state-long c = c.step.auto.1.1.1.1.1.1.1.0
+state_long : (c : tie.After-step invariant-loop decreases-loop) →
+    length c.step.new.1.1.1.1.1.1.1.0 ≡ length (loop_of c).loop.state
+state_long c = c.step.auto.1.1.1.1.1.1.1.0
 
-findings-long : (c : tie.After-step invariant-loop decreases-loop) →
-    length c.step.new.1.1.1.1.1.1.1.1.0 ≡ length (loop-of c).loop.findings
-findings-long c = c.step.auto.1.1.1.1.1.1.1.1.0
+findings_long : (c : tie.After-step invariant-loop decreases-loop) →
+    length c.step.new.1.1.1.1.1.1.1.1.0 ≡ length (loop_of c).loop.findings
+findings_long c = c.step.auto.1.1.1.1.1.1.1.1.0
 
-testing : (c : tie.After-step invariant-loop decreases-loop) → (loop-of c).loop.done < (loop-of c).before.record-count.result
+testing : (c : tie.After-step invariant-loop decreases-loop) → (loop_of c).loop.done < (loop_of c).before.record-count.result
 testing c = c.before.before.before.before.before.before.before.loop-test.true
 
 -- the record that is taken is that of the cycle
 recorded : (c : tie.After-step invariant-loop decreases-loop) →
-    let l = loop-of c in
+    let l = loop_of c in
     now c.before.before.before.before.before.before.record-at.result
-    ≡ recordOf (now (start_of l).args.file) l.loop.done
+    ≡ record_of (now (start_of l).args.file) l.loop.done
 recorded c =
-    let l = loop-of c in
+    let l = loop_of c in
     c.before.before.before.before.before.before.record-at.ensures
     ∙ record_is (start_of l).pre.0 l.loop.done
 
 -- the step did what the call of the cycle does
-done-by : (c : tie.After-step invariant-loop decreases-loop) →
-    let l = loop-of c in
+done_by : (c : tie.After-step invariant-loop decreases-loop) →
+    let l = loop_of c in
     Turned (call (now (start_of l).args.file) l.loop.done l.loop.inv.5.lent) c.step.result
     c.step.new.1.1.1.1.1.1.1.0 c.step.new.1.1.1.1.1.1.1.1.0
-done-by c =
-    let l = loop-of c in
+done_by c =
+    let l = loop_of c in
     let s = (start_of l).pre.0 in
     let e = c.step.ensures in
     turned s.accepted l.loop.inv.5 s.groups s.inputs s.blocks (recorded c) l.loop.findings e.0
@@ -104,22 +104,22 @@ few l =
     let s = start_of l in
     omega (
       arith,
-      l.before.record-count.ensures ∙ count-is s.pre.0,
-      few-records (now s.args.file) s.pre.0.accepted,
+      l.before.record-count.ensures ∙ count_is s.pre.0,
+      few_records (now s.args.file) s.pre.0.accepted,
     )
 
 -- what is printed of a cycle is the lines of what it found
-print-requires : tie.Need-print-cycle-requires invariant-loop decreases-loop
-print-requires c κs =
+print_requires : tie.Need-print-cycle-requires invariant-loop decreases-loop
+print_requires c κs =
     let t = c.before.before.before in
     let v = t.before.before.before.before.before.before in
-    let l = loop-of v in
+    let l = loop_of v in
     let h = l.loop.inv.5 in
     let e = t.answer.given.1 in (
-      tells h (testing v) e (done-by v) (start_of l).pre.0.blocks refl,
+      tells h (testing v) e (done_by v) (start_of l).pre.0.blocks refl,
       (
-        (finds-few h (testing v) e (done-by v), l.loop.inv.4 ∙ (start_of l).pre.1.1),
-        finds-none h (testing v) e (done-by v),
+        (finds-few h (testing v) e (done_by v), l.loop.inv.4 ∙ (start_of l).pre.1.1),
+        finds-none h (testing v) e (done_by v),
       ),
     )
 
@@ -135,33 +135,33 @@ cleared : (D₀ D1 : List ℕ) (n m : ℕ) → D₀ ≡ replicate n 0 → m ≡ 
 cleared D₀ D1 n m z l e =
     e ∙ ap (λ (m : ℕ). replicate m 0) (l ∙ ap length z ∙ length-replicate {A = ℕ} n 0) ∙ sym z
 
-loop-again : tie.Need-loop-preserved invariant-loop decreases-loop
-loop-again c =
+loop_again : tie.Need-loop-preserved invariant-loop decreases-loop
+loop_again c =
     let p = printed c in
     let v = stepped p in
-    let l = loop-of v in
+    let l = loop_of v in
     let a = (start_of l).args in
     let i = l.loop.inv in
     let e = p.before.before.before.before.answer.given.1 in (
       omega (arith, testing v),
-      omega (arith, i.1, finds-few i.5 (testing v) e (done-by v)),
-      state-long v ∙ i.2,
-      cleared (now a.findings) _ (findingsLength (projectOf (now a.file)).blocks)
+      omega (arith, i.1, finds-few i.5 (testing v) e (done_by v)),
+      state_long v ∙ i.2,
+      cleared (now a.findings) _ (findings_length (project_of (now a.file)).blocks)
           (length v.step.last.1.1.1.1.1.1.1.1.0) (start_of l).pre.0.clean
-          (findings-long v ∙ ap length i.3) p.print-cycle.ensures,
+          (findings_long v ∙ ap length i.3) p.print-cycle.ensures,
       p.print-cycle.kept.1.1.1.1.1.0 ∙ i.4,
-      goes_on i.5 (testing v) (start_of l).pre.0.accepted e (done-by v),
+      goes_on i.5 (testing v) (start_of l).pre.0.accepted e (done_by v),
     )
 
 -- a record is turned down
 returns : tie.Need-returns invariant-loop decreases-loop
 returns c =
     let v = c.before.before.before.before.before.before.before in
-    stops (loop-of v).loop.invariant.5 (testing v) c.before.answer2.given.1 (done-by v)
+    stops (loop_of v).loop.invariant.5 (testing v) c.before.answer2.given.1 (done_by v)
 
 -- or all have run
-returns-2 : tie.Need-returns-2 invariant-loop decreases-loop
-returns-2 c =
+returns_2 : tie.Need-returns-2 invariant-loop decreases-loop
+returns_2 c =
     let i = c.before.loop.invariant in
     ran i.5 c.loop-test.false
 
@@ -169,39 +169,39 @@ pub run_spec : {M : Type 1} → statement M
 run_spec = tie.close (tie.spec
     invariant-loop decreases-loop
     (λ c κs. size-some c.before.before.before.before.before.before.before.before.before.requires.0)
-    loop-holds
+    loop_holds
     (λ c κs. search needs)
-    errors-requires
+    errors_requires
     (λ c. search needs)
-    step-requires
-    (λ c. let v = c.before.before.before.before in omega (arith, testing v, (loop-of v).before.record-count.type-inv))
+    step_requires
+    (λ c. let v = c.before.before.before.before in omega (arith, testing v, (loop_of v).before.record-count.type-inv))
     (λ c. search needs) (λ c. search needs)
     (λ c.
     let v = c.before.before.before.before.before.before.before in
-    state-long v ∙ (loop-of v).loop.invariant.2)
+    state_long v ∙ (loop_of v).loop.invariant.2)
     (λ c.
     let v = c.before.before.before.before.before.before.before in
-    findings-long v ∙ ap length (loop-of v).loop.invariant.3)
-    (λ c. (loop-of c.before.before.before.before.before.before.before).loop.inv.4)
+    findings_long v ∙ ap length (loop_of v).loop.invariant.3)
+    (λ c. (loop_of c.before.before.before.before.before.before.before).loop.inv.4)
     returns
     (λ c.
     let v = c.before.before.before.before.before.before.before in
-    let i = (loop-of v).loop.invariant in
+    let i = (loop_of v).loop.invariant in
     omega (
       arith,
       i.1,
       testing v,
-      few (loop-of v),
-      finds-few i.5 (testing v) c.before.answer.given.1 (done-by v),
+      few (loop_of v),
+      finds-few i.5 (testing v) c.before.answer.given.1 (done_by v),
     ))
     (λ c.
     let v = c.before.before.before.before.before.before.before in
-    omega (arith, testing v, few (loop-of v)))
-    print-requires
+    omega (arith, testing v, few (loop_of v)))
+    print_requires
     (λ c. omega (arith, testing (stepped (printed c))))
-    loop-again
+    loop_again
     (λ c. omega (arith, c.before.loop.invariant.0, few c.before))
     (λ c. c.before.loop.invariant.2)
     (λ c. ap length c.before.loop.invariant.3)
     (λ c. c.before.loop.invariant.4)
-    returns-2)
+    returns_2)

@@ -2,9 +2,9 @@
 -- was not
 -- has the file's number.
 use Rattle.wire.proofs.Usual.{◌≡◌, sym, ◌∙◌, needs, now}
-use Rattle.casefile.specs.Bodies.{body_g, bodyI, bodyB, bodyT, projectOf}
+use Rattle.casefile.specs.Bodies.{body_g, body_i, body_b, body_t, project_of}
 use Rattle.casefile.proofs.Handed.{body_is}
-use Rattle.evaluator.specs.Fresh.{freshNumber}
+use Rattle.evaluator.specs.Fresh.{fresh_number}
 use Rattle.tracer.proofs.Starting.{is-accepted, is-fresh, is-refused, is-run, ordered_of}
 use Rattle.tracer.proofs.trace_cycles.Statement.{statement}
 use Rattle.tracer.proofs.trace_cycles.Tie as tie
@@ -12,7 +12,7 @@ use Rattle.tracer.proofs.trace_cycles.Tie as tie
 abbrev start_of : tie.Else1 → tie.Start
 start_of c = c.before.before.before.before.before.before.before.before.before
 
-zero_number : (c : tie.Else1) → let a = (start_of c).args in freshNumber (now a.file) (now a.state) ≡ 0
+zero_number : (c : tie.Else1) → let a = (start_of c).args in fresh_number (now a.file) (now a.state) ≡ 0
 zero_number c = sym c.before.before.before.fresh.ensures.0 ∙ c.if1.false
 
 -- turned down
@@ -22,20 +22,20 @@ returns c =
     let s = f.before.before.before.before.before.before in
     is-refused (now s.args.file) (now s.args.state) _ s.requires.0.size f.fresh.ensures.0 c.if1.true
 
-order-requires : tie.Need-block-order-requires
-unfolding projectOf
-order-requires c κs =
+order_requires : tie.Need-block-order-requires
+unfolding project_of
+order_requires c κs =
     let b = c.before in
     let t = b.before.before.before in
     let e = t.before in
     let s = start_of e in
     let F = now s.args.file in
     ordered_of F s.args.c _ (is-accepted F (now s.args.state) (zero_number e)) s.pre.0.counts
-    (body_is F t.starts-of.ensures.0 bodyB b.body3.ensures)
+    (body_is F t.starts-of.ensures.0 body_b b.body3.ensures)
 
-run-requires : tie.Need-run-requires
-unfolding projectOf
-run-requires c κs =
+run_requires : tie.Need-run-requires
+unfolding project_of
+run_requires c κs =
     let k = c.before.before.before.before in
     let t = k.before in
     let b = t.before in
@@ -52,9 +52,9 @@ run-requires c κs =
         accepted = yes;
         counts = s.pre.0.counts;
         groups = body_is F are body_g h.body.ensures;
-        inputs = body_is F are bodyI i.body2.ensures;
-        blocks = body_is F are bodyB b.body3.ensures;
-        records = body_is F are bodyT t.body4.ensures;
+        inputs = body_is F are body_i i.body2.ensures;
+        blocks = body_is F are body_b b.body3.ensures;
+        records = body_is F are body_t t.body4.ensures;
         order = k.block-order.ensures;
         clean = s.pre.0.clean yes;
       },
@@ -65,27 +65,27 @@ run-requires c κs =
 abbrev run_of : tie.After-slice-known7 → tie.After-run
 run_of c = c.before.before.before.before.before.before
 
-abbrev else-of : tie.After-run → tie.Else1
-else-of c = c.before.before.before.before.before.before.before.before.before.before.before
+abbrev else_of : tie.After-run → tie.Else1
+else_of c = c.before.before.before.before.before.before.before.before.before.before.before
 
-returns-2 : tie.Need-returns-2
-returns-2 c =
+returns_2 : tie.Need-returns-2
+returns_2 c =
     let r = run_of c in
-    let e = else-of r in
+    let e = else_of r in
     let a = (start_of e).args in
     r.run.ensures ∙ is-run (now a.file) (now a.state) (zero_number e)
 
-pub trace-cycles-spec : {M : Type 1} → statement M
-trace-cycles-spec = tie.close (tie.spec
+pub trace_cycles_spec : {M : Type 1} → statement M
+trace_cycles_spec = tie.close (tie.spec
     (λ c κs. search needs) (λ c. search needs)
     returns
     (λ c κs. search needs) (λ c κs. search needs) (λ c κs. search needs) (λ c κs. search needs)
     (λ c κs. search needs)
-    order-requires
+    order_requires
     (λ c. search needs)
-    run-requires
+    run_requires
     (λ c.
     let r = run_of c in
-    r.run.kept.1.1.1.1.1.1.1.0 ∙ (else-of r).before.before.before.fresh.kept.1.0)
+    r.run.kept.1.1.1.1.1.1.1.0 ∙ (else_of r).before.before.before.fresh.kept.1.0)
     (λ c. search needs) (λ c. search needs)
-    returns-2)
+    returns_2)

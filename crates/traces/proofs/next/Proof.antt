@@ -7,8 +7,8 @@ use Rattle.traces.proofs.next.Tie as tie
 fits : tie.Need-slice-reshare-prefix-trace
 fits c = search needs
 
-pub next-spec : {M : Type 1} → statement M
-next-spec = tie.close (tie.spec
+pub next_spec : {M : Type 1} → statement M
+next_spec = tie.close (tie.spec
     (λ c. search needs) (λ c κs. search needs) (λ c. search needs) (λ c. search needs) (λ c κs. search needs)
     (λ c. search needs) (λ c. search needs) (λ c. search needs)
     (λ c. sym (length-take-le _ _ (omega (arith, c.before.if2.false))))

@@ -4,8 +4,8 @@ use Rattle.year.proofs.Rates.{no_nan}
 use Rattle.year.proofs.bits.Statement.{statement}
 use Rattle.year.proofs.bits.Tie as tie
 
-pub bits-spec : {M : Type 1} → statement M
-bits-spec = tie.close (tie.spec
+pub bits_spec : {M : Type 1} → statement M
+bits_spec = tie.close (tie.spec
     (λ c. search needs)
     (λ c. no_nan _ c.if1.true)
     (λ c. rw (c.before.before.s.given.1, c.if1.true))

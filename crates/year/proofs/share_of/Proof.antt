@@ -4,8 +4,8 @@ use Rattle.year.specs.Months.{share_of}
 use Rattle.year.proofs.share_of.Statement.{statement}
 use Rattle.year.proofs.share_of.Tie as tie
 
-pub share-of-spec : {M : Type 1} → statement M
+pub share_of_spec : {M : Type 1} → statement M
 unfolding share_of
-share-of-spec = tie.close (tie.spec
+share_of_spec = tie.close (tie.spec
     (λ c. rw (eq-eqb _ _ c.if1.true))
     (λ c. rw (ne_eqb _ _ c.if1.false)))

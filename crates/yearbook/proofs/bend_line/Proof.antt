@@ -3,8 +3,8 @@ use Rattle.wire.proofs.Usual.{refl, needs, arith}
 use Rattle.yearbook.proofs.bend_line.Statement.{statement}
 use Rattle.yearbook.proofs.bend_line.Tie as tie
 
-pub bend-line-spec : {M : Type 1} → statement M
-bend-line-spec = tie.close (tie.spec
+pub bend_line_spec : {M : Type 1} → statement M
+bend_line_spec = tie.close (tie.spec
     (λ c. search needs) (λ c κs. search needs) (λ c. search needs) (λ c. search needs) (λ c κs. search needs)
     (λ c. search needs)
     (λ c. let p = c.before.before in rw p.before.before.before.b.given.1 p.bend-line.ensures)

@@ -1,13 +1,13 @@
 -- `yearbook::month_line` meets its contract: by cases of the share.
 use Rattle.wire.proofs.Usual.{sym, ap, ◌∙◌, needs}
 use Rattle.year.specs.Months.{bits_of}
-use Rattle.yearbook.specs.Text.{monthText}
+use Rattle.yearbook.specs.Text.{month_text}
 use Rattle.yearbook.proofs.month_line.Statement.{statement}
 use Rattle.yearbook.proofs.month_line.Tie as tie
 
-pub month-line-spec : {M : Type 1} → statement M
-unfolding monthText
-month-line-spec = tie.close (tie.spec
+pub month_line_spec : {M : Type 1} → statement M
+unfolding month_text
+month_line_spec = tie.close (tie.spec
     (λ c κs. search needs) (λ c κs. search needs) (λ c. search needs) (λ c κs. search needs) (λ c. search needs)
     (λ c κs. search needs) (λ c. search needs)
     (λ c.

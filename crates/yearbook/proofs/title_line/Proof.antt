@@ -3,8 +3,8 @@ use Rattle.wire.proofs.Usual.{refl, needs, arith}
 use Rattle.yearbook.proofs.title_line.Statement.{statement}
 use Rattle.yearbook.proofs.title_line.Tie as tie
 
-pub title-line-spec : {M : Type 1} → statement M
-title-line-spec = tie.close (tie.spec
+pub title_line_spec : {M : Type 1} → statement M
+title_line_spec = tie.close (tie.spec
     (λ c. search needs) (λ c. search needs) (λ c κs. search needs) (λ c. search needs) (λ c. search needs)
     (λ c κs. search needs) (λ c. search needs)
     (λ c.

@@ -9,8 +9,8 @@ invariant-loop t bytes₀ m₀ bytes m = (m ≤ 12) × (length bytes ≡ 204)
 abbrev decreases-loop : tie.decreases-loop
 decreases-loop t bytes₀ m₀ bytes m = 12 - m
 
-pub write-table-spec : {M : Type 1} → statement M
-write-table-spec = tie.close (tie.spec
+pub write_table_spec : {M : Type 1} → statement M
+write_table_spec = tie.close (tie.spec
     invariant-loop decreases-loop
     (λ c. (omega arith, refl))
     (λ c. search needs) (λ c. search needs) (λ c. search needs) (λ c. search needs) (λ c κs. search needs)

@@ -1,14 +1,14 @@
 -- `block::arithmetic_step` meets its contract: an arm for each outcome.
 use Rattle.wire.proofs.Usual.{sym, ◌∙◌, now, eqb, needs}
-use Rattle.block.specs.State.{decode, diagnosisOf}
-use Rattle.block.specs.Step.{arithmeticStep, arithmeticBytes}
-use Rattle.block.proofs.Enters.{fails-enters, holds-enters}
+use Rattle.block.specs.State.{decode, diagnosis_of}
+use Rattle.block.specs.Step.{arithmetic_step, arithmetic_bytes}
+use Rattle.block.proofs.Enters.{fails_enters, holds-enters}
 use Rattle.block.proofs.arithmetic.arithmetic_step.Statement.{statement}
 use Rattle.block.proofs.arithmetic.arithmetic_step.Tie as tie
 
-pub arithmetic-step-spec : {M : Type 1} → statement M
-unfolding arithmeticBytes arithmeticStep decode
-arithmetic-step-spec = tie.close (tie.spec
+pub arithmetic_step_spec : {M : Type 1} → statement M
+unfolding arithmetic_bytes arithmetic_step decode
+arithmetic_step_spec = tie.close (tie.spec
     (λ c κs. search needs) (λ c. search needs) (λ c κs. search needs) (λ c. search needs) (λ c κs. search needs)
     (λ c. search needs) (λ c κs. search needs) (λ c. search needs)
     (λ c.
@@ -19,7 +19,7 @@ arithmetic-step-spec = tie.close (tie.spec
     let s = now a.s in
     let told = sym r.result-of.ensures ∙ e.enum_told.given.1 in (
       rw told k.fails.ensures.0,
-      rw told (k.fails.ensures.1 ∙ sym (fails-enters (eqb a.phase 1) 1 (diagnosisOf s) s)),
+      rw told (k.fails.ensures.1 ∙ sym (fails_enters (eqb a.phase 1) 1 (diagnosis_of s) s)),
     ))
     (λ c. search needs)
     (λ c.
@@ -30,7 +30,7 @@ arithmetic-step-spec = tie.close (tie.spec
     let s = now a.s in
     let told = sym r.result-of.ensures ∙ e.enum-told2.given.1 in (
       rw told k.fails2.ensures.0,
-      rw told (k.fails2.ensures.1 ∙ sym (fails-enters (eqb a.phase 1) 2 (diagnosisOf s) s)),
+      rw told (k.fails2.ensures.1 ∙ sym (fails_enters (eqb a.phase 1) 2 (diagnosis_of s) s)),
     ))
     (λ c. search needs)
     (λ c.

@@ -3,8 +3,8 @@ use Rattle.wire.proofs.Usual.{◌∙◌, eq-eqb, ne_eqb, needs}
 use Rattle.block.proofs.arithmetic.holds.Statement.{statement}
 use Rattle.block.proofs.arithmetic.holds.Tie as tie
 
-pub holds-spec : {M : Type 1} → statement M
-holds-spec = tie.close (tie.spec
+pub holds_spec : {M : Type 1} → statement M
+holds_spec = tie.close (tie.spec
     (λ c κs. search needs) (λ c κs. search needs) (λ c. search needs)
     (λ c.
     let k = c.before.before in

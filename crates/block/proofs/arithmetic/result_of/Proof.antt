@@ -4,7 +4,7 @@ use Rattle.numbers.specs.Types.{type_of}
 use Rattle.numbers.specs.Results.{outcome}
 use Rattle.numbers.specs.declared.Op.{Op}
 use Rattle.numbers.specs.declared.Op.TheVariants.{Add, Sub, Mul, Div}
-use Rattle.kind.specs.Parameters.{firstType, secondType, outputType}
+use Rattle.kind.specs.Parameters.{first_type, second_type, output_type}
 use Rattle.block.specs.Arithmetic.{op_of, result_of}
 use Rattle.block.proofs.arithmetic.result_of.Statement.{statement}
 use Rattle.block.proofs.arithmetic.result_of.Tie as tie
@@ -15,8 +15,8 @@ by_name : (c : tie.After-type-of3) (o : Op) →
     let f = s.before.before in
     let a = f.before.before.before.args in
     outcome o f.type-of.result a.x s.type-of2.result a.y c.type-of3.result
-    ≡ outcome o (type_of (firstType (now a.p))) a.x (type_of (secondType (now a.p))) a.y
-    (type_of (outputType (now a.p)))
+    ≡ outcome o (type_of (first_type (now a.p))) a.x (type_of (second_type (now a.p))) a.y
+    (type_of (output_type (now a.p)))
 by_name c o =
     let s = c.before.before in
     let f = s.before.before in
@@ -29,9 +29,9 @@ by_name c o =
       f.before.first-type.ensures,
     )
 
-pub result-of-spec : {M : Type 1} → statement M
+pub result_of_spec : {M : Type 1} → statement M
 unfolding result_of op_of
-result-of-spec = tie.close (tie.spec
+result_of_spec = tie.close (tie.spec
     (λ c κs. search needs) (λ c κs. search needs) (λ c κs. search needs) (λ c κs. search needs)
     (λ c κs. search needs) (λ c κs. search needs) (λ c κs. search needs)
     (λ c. rw (eq-eqb _ 3 c.before.if1.true) (c.sum.ensures ∙ by_name c.before.before Add))

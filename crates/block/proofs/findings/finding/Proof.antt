@@ -1,12 +1,12 @@
 -- `block::finding` meets its contract.
-use Rattle.block.specs.Finding.{said_of, findingOf}
+use Rattle.block.specs.Finding.{said_of, finding_of}
 use Rattle.wire.proofs.Usual.{needs}
 use Rattle.block.proofs.findings.finding.Statement.{statement}
 use Rattle.block.proofs.findings.finding.Tie as tie
 
-pub finding-spec : {M : Type 1} → statement M
-unfolding findingOf said_of
-finding-spec = tie.close (tie.spec
+pub finding_spec : {M : Type 1} → statement M
+unfolding finding_of said_of
+finding_spec = tie.close (tie.spec
     (λ c κs. search needs) (λ c κs. search needs) (λ c κs. search needs) (λ c κs. search needs)
     (λ c κs. search needs) (λ c κs. search needs)
     (λ c.

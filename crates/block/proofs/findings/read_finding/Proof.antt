@@ -1,12 +1,12 @@
 -- `block::read_finding` meets its contract: field by field.
-use Rattle.block.specs.Finding.{findingIn}
+use Rattle.block.specs.Finding.{finding_in}
 use Rattle.wire.proofs.Usual.{needs}
 use Rattle.block.proofs.findings.read_finding.Statement.{statement}
 use Rattle.block.proofs.findings.read_finding.Tie as tie
 
-pub read-finding-spec : {M : Type 1} → statement M
-unfolding findingIn
-read-finding-spec = tie.close (tie.spec
+pub read_finding_spec : {M : Type 1} → statement M
+unfolding finding_in
+read_finding_spec = tie.close (tie.spec
     (λ c κs. search needs) (λ c κs. search needs) (λ c κs. search needs) (λ c κs. search needs)
     (λ c κs. search needs) (λ c κs. search needs)
     (λ c.

@@ -3,7 +3,7 @@ use Rattle.wire.proofs.Usual.{eq-eqb, ne_eqb}
 use Rattle.block.proofs.formed.arithmetic_diagnosis.Statement.{statement}
 use Rattle.block.proofs.formed.arithmetic_diagnosis.Tie as tie
 
-pub arithmetic-diagnosis-spec : {M : Type 1} → statement M
-arithmetic-diagnosis-spec = tie.close (tie.spec
+pub arithmetic_diagnosis_spec : {M : Type 1} → statement M
+arithmetic_diagnosis_spec = tie.close (tie.spec
     (λ c. rw (eq-eqb _ 4 c.if1.true))
     (λ c. rw (ne_eqb _ 4 c.if1.false)))

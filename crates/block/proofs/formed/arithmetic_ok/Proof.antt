@@ -1,12 +1,12 @@
 -- `block::arithmetic_ok` meets its contract: one test after the other, as the definition has them.
-use Rattle.block.specs.Formed.{arithmeticOk}
+use Rattle.block.specs.Formed.{arithmetic_ok}
 use Rattle.wire.proofs.Usual.{needs}
 use Rattle.block.proofs.formed.arithmetic_ok.Statement.{statement}
 use Rattle.block.proofs.formed.arithmetic_ok.Tie as tie
 
-pub arithmetic-ok-spec : {M : Type 1} → statement M
-unfolding arithmeticOk
-arithmetic-ok-spec = tie.close (tie.spec
+pub arithmetic_ok_spec : {M : Type 1} → statement M
+unfolding arithmetic_ok
+arithmetic_ok_spec = tie.close (tie.spec
     (λ c κs. search needs) (λ c κs. search needs) (λ c κs. search needs) (λ c κs. search needs)
     (λ c.
     rw (

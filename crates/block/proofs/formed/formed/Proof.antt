@@ -4,9 +4,9 @@ use Rattle.wire.proofs.Usual.{needs}
 use Rattle.block.proofs.formed.formed.Statement.{statement}
 use Rattle.block.proofs.formed.formed.Tie as tie
 
-pub formed-spec : {M : Type 1} → statement M
+pub formed_spec : {M : Type 1} → statement M
 unfolding formed
-formed-spec = tie.close (tie.spec
+formed_spec = tie.close (tie.spec
     (λ c. search needs) (λ c κs. search needs) (λ c. search needs) (λ c κs. search needs) (λ c κs. search needs)
     (λ c. search needs) (λ c κs. search needs) (λ c κs. search needs) (λ c. search needs)
     (λ c. rw c.before.enum_told.given.1 c.decouple-ok.ensures)

@@ -1,12 +1,12 @@
 -- `block::twohand_ok` meets its contract: one test after the other, as the definition has them.
-use Rattle.block.specs.Formed.{twohandOk}
+use Rattle.block.specs.Formed.{twohand_ok}
 use Rattle.wire.proofs.Usual.{needs}
 use Rattle.block.proofs.formed.twohand_ok.Statement.{statement}
 use Rattle.block.proofs.formed.twohand_ok.Tie as tie
 
-pub twohand-ok-spec : {M : Type 1} → statement M
-unfolding twohandOk
-twohand-ok-spec = tie.close (tie.spec
+pub twohand_ok_spec : {M : Type 1} → statement M
+unfolding twohand_ok
+twohand_ok_spec = tie.close (tie.spec
     (λ c κs. search needs) (λ c κs. search needs) (λ c κs. search needs) (λ c κs. search needs)
     (λ c κs. search needs)
     (λ c.

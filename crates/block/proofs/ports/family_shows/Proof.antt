@@ -1,12 +1,12 @@
 -- `block::family_shows` meets its contract: the clause of the family.
-use Rattle.block.specs.Shows.{showsOf}
+use Rattle.block.specs.Shows.{shows_of}
 use Rattle.wire.proofs.Usual.{needs}
 use Rattle.block.proofs.ports.family_shows.Statement.{statement}
 use Rattle.block.proofs.ports.family_shows.Tie as tie
 
-pub family-shows-spec : {M : Type 1} → statement M
-unfolding showsOf
-family-shows-spec = tie.close (tie.spec
+pub family_shows_spec : {M : Type 1} → statement M
+unfolding shows_of
+family_shows_spec = tie.close (tie.spec
     (λ c. search needs) (λ c κs. search needs) (λ c. search needs) (λ c. search needs) (λ c. search needs)
     (λ c κs. search needs) (λ c. search needs) (λ c κs. search needs) (λ c. search needs)
     (λ c. rw (c.before.enum_told.given.1, c.read32.ensures))

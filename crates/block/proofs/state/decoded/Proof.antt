@@ -5,9 +5,9 @@ use Rattle.block.specs.State.{decode}
 use Rattle.block.proofs.state.decoded.Statement.{statement}
 use Rattle.block.proofs.state.decoded.Tie as tie
 
-returns-2 : tie.Need-returns-2
+returns_2 : tie.Need-returns-2
 unfolding decode
-returns-2 c =
+returns_2 c =
     let d = c.before.before.before.before.before in
     let e = d.before.before.before in
     let f = e.before.before.before in
@@ -22,10 +22,10 @@ returns-2 c =
       output = c.word32.ensures i;
     }
 
-pub decoded-spec : {M : Type 1} → statement M
-decoded-spec = tie.close (tie.spec
+pub decoded_spec : {M : Type 1} → statement M
+decoded_spec = tie.close (tie.spec
     (λ c κs. search needs) (λ c. search needs) (λ c. search needs) (λ c. search needs) (λ c. search needs)
     (λ c κs. search needs) (λ c. search needs) (λ c. search needs) (λ c κs. search needs) (λ c. search needs)
     (λ c. search needs) (λ c κs. search needs) (λ c. search needs) (λ c. search needs) (λ c κs. search needs)
     (λ c. search needs) (λ c. search needs) (λ c. search needs) (λ c. search needs) (λ c κs. search needs)
-    returns-2)
+    returns_2)

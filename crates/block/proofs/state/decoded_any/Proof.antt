@@ -4,9 +4,9 @@ use Rattle.block.specs.State.{decode}
 use Rattle.block.proofs.state.decoded_any.Statement.{statement}
 use Rattle.block.proofs.state.decoded_any.Tie as tie
 
-pub decoded-any-spec : {M : Type 1} → statement M
+pub decoded_any_spec : {M : Type 1} → statement M
 unfolding decode
-decoded-any-spec = tie.close (tie.spec
+decoded_any_spec = tie.close (tie.spec
     (λ c κs. search needs) (λ c κs. search needs) (λ c κs. search needs) (λ c κs. search needs)
     (λ c κs. search needs) (λ c κs. search needs)
     (λ c.

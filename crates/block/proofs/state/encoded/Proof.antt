@@ -4,9 +4,9 @@ use Rattle.block.specs.State.{encode}
 use Rattle.block.proofs.state.encoded.Statement.{statement}
 use Rattle.block.proofs.state.encoded.Tie as tie
 
-pub encoded-spec : {M : Type 1} → statement M
+pub encoded_spec : {M : Type 1} → statement M
 unfolding encode
-encoded-spec = tie.close (tie.spec
+encoded_spec = tie.close (tie.spec
     (λ c. search needs) (λ c. search needs) (λ c. search needs) (λ c. search needs) (λ c. search needs)
     (λ c. search needs) (λ c. search needs) (λ c. search needs) (λ c. search needs) (λ c. search needs)
     (λ c. search needs) (λ c. search needs)

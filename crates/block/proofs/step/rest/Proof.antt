@@ -1,13 +1,13 @@
 -- `block::rest` meets its contract: its tests, in the order of the definition, pick the case.
 use Rattle.wire.proofs.Usual.{◌∙◌, eq-eqb, ne_eqb, needs}
-use Rattle.block.specs.State.{decode, freshBytes}
-use Rattle.block.specs.Step.{rest_of, restBytes}
+use Rattle.block.specs.State.{decode, fresh_bytes}
+use Rattle.block.specs.Step.{rest_of, rest_bytes}
 use Rattle.block.proofs.step.rest.Statement.{statement}
 use Rattle.block.proofs.step.rest.Tie as tie
 
-pub rest-spec : {M : Type 1} → statement M
-unfolding restBytes rest_of decode freshBytes
-rest-spec = tie.close (tie.spec
+pub rest_spec : {M : Type 1} → statement M
+unfolding rest_bytes rest_of decode fresh_bytes
+rest_spec = tie.close (tie.spec
     (λ c κs. search needs) (λ c. search needs)
     (λ c. c.before.before.stop.ensures ∙ rw (eq-eqb _ 0 c.before.before.before.before.if1.true))
     (λ c κs. search needs) (λ c κs. search needs) (λ c κs. search needs) (λ c κs. search needs)

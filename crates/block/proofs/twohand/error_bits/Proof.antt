@@ -1,12 +1,12 @@
 -- `block::error_bits` meets its contract: four bits at their places fit.
-use Rattle.block.specs.Twohand.{errorBits}
+use Rattle.block.specs.Twohand.{error_bits}
 use Rattle.wire.proofs.Usual.{needs}
 use Rattle.block.proofs.twohand.error_bits.Statement.{statement}
 use Rattle.block.proofs.twohand.error_bits.Tie as tie
 
-pub error-bits-spec : {M : Type 1} → statement M
-unfolding errorBits
-error-bits-spec = tie.close (tie.spec
+pub error_bits_spec : {M : Type 1} → statement M
+unfolding error_bits
+error_bits_spec = tie.close (tie.spec
     (λ c. search needs) (λ c. search needs) (λ c κs. search needs) (λ c. search needs) (λ c. search needs)
     (λ c κs. search needs) (λ c. search needs) (λ c. search needs) (λ c κs. search needs) (λ c. search needs)
     (λ c κs. search needs) (λ c κs. search needs) (λ c. search needs)

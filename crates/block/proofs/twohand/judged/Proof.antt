@@ -4,9 +4,9 @@ use Rattle.block.specs.Twohand.{judged}
 use Rattle.block.proofs.twohand.judged.Statement.{statement}
 use Rattle.block.proofs.twohand.judged.Tie as tie
 
-pub judged-spec : {M : Type 1} → statement M
+pub judged_spec : {M : Type 1} → statement M
 unfolding judged
-judged-spec = tie.close (tie.spec
+judged_spec = tie.close (tie.spec
     (λ c κs. search needs) (λ c κs. search needs) (λ c κs. search needs)
     (λ c.
     let d = c.before.before in

@@ -4,9 +4,9 @@ use Rattle.block.specs.Twohand.{moved}
 use Rattle.block.proofs.twohand.moved.Statement.{statement}
 use Rattle.block.proofs.twohand.moved.Tie as tie
 
-pub moved-spec : {M : Type 1} → statement M
+pub moved_spec : {M : Type 1} → statement M
 unfolding moved
-moved-spec = tie.close (tie.spec
+moved_spec = tie.close (tie.spec
     (λ c. search needs) (λ c. search needs) (λ c. search needs)
     (λ c. rw (eq-eqb _ _ c.before.before.before.if1.true))
     (λ c. search needs) (λ c. search needs)

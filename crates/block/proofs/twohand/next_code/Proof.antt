@@ -4,9 +4,9 @@ use Rattle.block.specs.Twohand.{next_code}
 use Rattle.block.proofs.twohand.next_code.Statement.{statement}
 use Rattle.block.proofs.twohand.next_code.Tie as tie
 
-pub next-code-spec : {M : Type 1} → statement M
+pub next_code_spec : {M : Type 1} → statement M
 unfolding next_code
-next-code-spec = tie.close (tie.spec
+next_code_spec = tie.close (tie.spec
     (λ c. rw (eq-eqb _ 3 c.before.if1.true, c.if2.true))
     (λ c. rw (eq-eqb _ 3 c.before.before.if1.true, c.before.if2.false, c.if3.true))
     (λ c. rw (eq-eqb _ 3 c.before.before.if1.true, c.before.if2.false, c.if3.false))

@@ -1,11 +1,11 @@
 -- `block::run_step` meets its contract: the transition alone, or the whole rule.
 use Rattle.wire.proofs.Usual.{◌≡◌, sym, ◌∙◌, false, not, not-true, now, needs}
 use Rattle.wire.proofs.Places.{both_left, both_right}
-use Rattle.kind.specs.Parameters.{activeMask}
-use Rattle.block.specs.State.{isWaiting, code_of, decode, encode, entersFrom}
-use Rattle.block.specs.Twohand.{handsOf}
+use Rattle.kind.specs.Parameters.{active_mask}
+use Rattle.block.specs.State.{is_waiting, code_of, decode, encode, enters_from}
+use Rattle.block.specs.Twohand.{hands_of}
 use Rattle.block.specs.Asks.{Even}
-use Rattle.block.proofs.Steady.{steady, moves-on}
+use Rattle.block.proofs.Steady.{steady, moves_on}
 use Rattle.block.proofs.twohand.run_step.Statement.{statement}
 use Rattle.block.proofs.twohand.run_step.Tie as tie
 
@@ -22,9 +22,9 @@ stays c =
     let t = f.if1.true in
     let no = not w.is-waiting.result in
     let unwaited = not-true w.is-waiting.result (both_left no n.none-differs.result t) in
-    let waits : isWaiting (code_of (now a.s)) ≡ false =
+    let waits : is_waiting (code_of (now a.s)) ≡ false =
     rw k.code_of_lem.ensures at (sym w.is-waiting.ensures ∙ unwaited) in
-    let even : Even (activeMask (now a.p)) a.x =
+    let even : Even (active_mask (now a.p)) a.x =
     rw (m.wide.ensures, m.before.active-mask.ensures) at (n.none-differs.ensures
     (both_right no n.none-differs.result t)) in
     let plainly = steady (now a.p) a.ms a.x (decode (now a.s)) waits even in
@@ -39,12 +39,12 @@ stays c =
             m.wide.ensures,
             m.before.active-mask.ensures,
           )),
-      rw plainly (sym (moves-on (now a.s) (code_of (now a.s)) (handsOf (activeMask (now a.p)) a.x))),
+      rw plainly (sym (moves_on (now a.s) (code_of (now a.s)) (hands_of (active_mask (now a.p)) a.x))),
     )
 
-pub run-step-spec : {M : Type 1} → statement M
-unfolding decode encode entersFrom
-run-step-spec = tie.close (tie.spec
+pub run_step_spec : {M : Type 1} → statement M
+unfolding decode encode enters_from
+run_step_spec = tie.close (tie.spec
     (λ c κs. search needs) (λ c κs. search needs) (λ c κs. search needs) (λ c κs. search needs)
     (λ c κs. search needs) (λ c κs. search needs) (λ c κs. search needs) (λ c κs. search needs)
     (λ c κs. search needs) (λ c. search needs)

@@ -3,8 +3,8 @@ use Rattle.wire.proofs.Usual.{needs}
 use Rattle.block.proofs.twohand.times_of.Statement.{statement}
 use Rattle.block.proofs.twohand.times_of.Tie as tie
 
-pub times-of-spec : {M : Type 1} → statement M
-times-of-spec = tie.close (tie.spec
+pub times_of_spec : {M : Type 1} → statement M
+times_of_spec = tie.close (tie.spec
     (λ c κs. search needs) (λ c κs. search needs) (λ c κs. search needs) (λ c κs. search needs)
     (λ c κs. search needs)
     (λ c.

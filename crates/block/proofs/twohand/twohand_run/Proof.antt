@@ -1,12 +1,12 @@
 -- `block::twohand_run` meets its contract.
-use Rattle.block.specs.Twohand.{twohandRun}
+use Rattle.block.specs.Twohand.{twohand_run}
 use Rattle.wire.proofs.Usual.{needs}
 use Rattle.block.proofs.twohand.twohand_run.Statement.{statement}
 use Rattle.block.proofs.twohand.twohand_run.Tie as tie
 
-pub twohand-run-spec : {M : Type 1} → statement M
-unfolding twohandRun
-twohand-run-spec = tie.close (tie.spec
+pub twohand_run_spec : {M : Type 1} → statement M
+unfolding twohand_run
+twohand_run_spec = tie.close (tie.spec
     (λ c κs. search needs) (λ c κs. search needs) (λ c κs. search needs) (λ c κs. search needs)
     (λ c κs. search needs) (λ c κs. search needs)
     (λ c.

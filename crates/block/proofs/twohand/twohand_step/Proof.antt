@@ -1,15 +1,15 @@
 -- `block::twohand_step` meets its contract: the phase picks the case.
 use Rattle.wire.proofs.Usual.{sym, ◌∙◌, eq-eqb, ne_eqb, now, needs}
-use Rattle.block.specs.State.{diagnosisOf, decode}
-use Rattle.block.specs.Twohand.{twohandFault}
-use Rattle.block.specs.Step.{twohandStep, twohandBytes}
-use Rattle.block.proofs.Enters.{answer-enters}
+use Rattle.block.specs.State.{diagnosis_of, decode}
+use Rattle.block.specs.Twohand.{twohand_fault}
+use Rattle.block.specs.Step.{twohand_step, twohand_bytes}
+use Rattle.block.proofs.Enters.{answer_enters}
 use Rattle.block.proofs.twohand.twohand_step.Statement.{statement}
 use Rattle.block.proofs.twohand.twohand_step.Tie as tie
 
-pub twohand-step-spec : {M : Type 1} → statement M
-unfolding twohandBytes twohandStep decode
-twohand-step-spec = tie.close (tie.spec
+pub twohand_step_spec : {M : Type 1} → statement M
+unfolding twohand_bytes twohand_step decode
+twohand_step_spec = tie.close (tie.spec
     (λ c κs. search needs) (λ c. search needs)
     (λ c. rw (eq-eqb _ 1 c.before.before.before.before.if1.true) c.before.before.run_step.ensures)
     (λ c κs. search needs) (λ c κs. search needs) (λ c κs. search needs) (λ c κs. search needs)
@@ -25,6 +25,6 @@ twohand-step-spec = tie.close (tie.spec
     let h = ne_eqb _ 1 i.if1.false in (
       k.keep.ensures
           ∙ rw (k.before.acknowledged.ensures, f.twohand-fault.ensures, d.diagnosis-of.ensures, h),
-      rw (h, e.is-error.ensures, f.twohand-fault.ensures, d.diagnosis-of.ensures)
-          (sym (answer-enters (twohandFault (now a.p) (diagnosisOf s) a.x) (diagnosisOf s) s)),
+      rw (h, e.error_is.ensures, f.twohand-fault.ensures, d.diagnosis-of.ensures)
+          (sym (answer_enters (twohand_fault (now a.p) (diagnosis_of s) a.x) (diagnosis_of s) s)),
     )))

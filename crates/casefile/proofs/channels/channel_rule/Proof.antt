@@ -1,13 +1,13 @@
 -- `casefile::channels::channel_rule` meets its contract: the clause of the family.
-use Rattle.casefile.specs.Rules.{channelRuleOf}
+use Rattle.casefile.specs.Rules.{channel_rule_of}
 use Rattle.casefile.proofs.Families.{told}
 use Rattle.wire.proofs.Usual.{needs}
 use Rattle.casefile.proofs.channels.channel_rule.Statement.{statement}
 use Rattle.casefile.proofs.channels.channel_rule.Tie as tie
 
-pub channel-rule-spec : {M : Type 1} → statement M
-unfolding channelRuleOf
-channel-rule-spec = tie.close (tie.spec
+pub channel_rule_spec : {M : Type 1} → statement M
+unfolding channel_rule_of
+channel_rule_spec = tie.close (tie.spec
     (λ c κs. search needs) (λ c κs. search needs) (λ c. search needs) (λ c κs. search needs)
     (λ c κs. search needs) (λ c. search needs) (λ c. search needs) (λ c. search needs)
     (λ c.

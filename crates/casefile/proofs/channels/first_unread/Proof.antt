@@ -4,8 +4,8 @@ use Rattle.casefile.proofs.Marking.{unread}
 use Rattle.casefile.proofs.channels.first_unread.Statement.{statement}
 use Rattle.casefile.proofs.channels.first_unread.Tie as tie
 
-pub first-unread-spec : {M : Type 1} → statement M
-first-unread-spec = tie.close (tie.spec
+pub first_unread_spec : {M : Type 1} → statement M
+first_unread_spec = tie.close (tie.spec
     (λ c. search needs) (λ c κs. search needs) (λ c. search needs) (λ c κs. search needs) (λ c. search needs)
     (λ c κs. search needs)
     (λ c.

@@ -1,41 +1,41 @@
 -- `casefile::channels::mark_blocks` meets its contract: each turn marks what the links of one block name.
 use Rattle.wire.proofs.Usual.{sym, ◌∙◌, subst, List, ℕ, ◌-◌, needs, now}
 use Rattle.casefile.proofs.Marking.{Marking, marking-begin, marking-more, marking-end}
-use Rattle.project.specs.Project.{blockCount, linkCount}
+use Rattle.project.specs.Project.{block_count, link_count}
 use Rattle.casefile.specs.Asks.{Marked}
-use Rattle.casefile.specs.Rules.{blockPasses, linkPasses}
+use Rattle.casefile.specs.Rules.{block_passes, link_passes}
 use Rattle.wire.specs.Places.{all}
 use Rattle.casefile.proofs.channels.mark_blocks.Statement.{statement}
 use Rattle.casefile.proofs.channels.mark_blocks.Tie as tie
 
 abbrev invariant-loop : tie.invariant-loop
-invariant-loop marks₀ blocks n a₀ marks a = Marking (blockPasses blocks) (blockCount blocks) marks₀ marks a
+invariant-loop marks₀ blocks n a₀ marks a = Marking (block_passes blocks) (block_count blocks) marks₀ marks a
 
 abbrev decreases-loop : tie.decreases-loop
 decreases-loop marks₀ blocks n a₀ marks a = n - a
 
-loop-again : tie.Need-loop-preserved invariant-loop decreases-loop
-unfolding blockPasses blockCount
-loop-again c =
+loop_again : tie.Need-loop-preserved invariant-loop decreases-loop
+unfolding block_passes block_count
+loop_again c =
     let m = c.before.before in
     let d = m.before.before.before in
     let r = m.before.block-record.ensures in
     let N = m.mark-links.new.0 in
     marking-more d.before.loop.invariant d.loop-test.true m.mark-links.auto.0
-    (subst (λ (R : List ℕ). Marked d.before.loop.marks N (λ b p. all (linkPasses R b p) linkCount)) r
+    (subst (λ (R : List ℕ). Marked d.before.loop.marks N (λ b p. all (link_passes R b p) link_count)) r
     m.mark-links.ensures)
 
-pub mark-blocks-spec : {M : Type 1} → statement M
-unfolding blockPasses blockCount
-mark-blocks-spec = tie.close (tie.spec
+pub mark_blocks_spec : {M : Type 1} → statement M
+unfolding block_passes block_count
+mark_blocks_spec = tie.close (tie.spec
     invariant-loop decreases-loop
     (λ c.
     let a = c.before.before in
     let B = now a.args.blocks in
-    marking-begin (blockPasses B) (blockCount B) (now a.args.marks) a.requires)
+    marking-begin (block_passes B) (block_count B) (now a.args.marks) a.requires)
     (λ c κs. search needs)
     (λ c κs. c.before.before.before.loop.invariant.long)
     (λ c. search needs) (λ c. search needs)
-    loop-again
+    loop_again
     (λ c. c.before.loop.invariant.long ∙ sym c.before.before.before.before.requires)
     (λ c. marking-end c.before.loop.invariant c.loop-test.false))

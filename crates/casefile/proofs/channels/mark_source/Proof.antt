@@ -5,9 +5,9 @@ use Rattle.casefile.specs.Rules.{passes}
 use Rattle.casefile.proofs.channels.mark_source.Statement.{statement}
 use Rattle.casefile.proofs.channels.mark_source.Tie as tie
 
-pub mark-source-spec : {M : Type 1} → statement M
+pub mark_source_spec : {M : Type 1} → statement M
 unfolding passes
-mark-source-spec = tie.close (tie.spec
+mark_source_spec = tie.close (tie.spec
     (λ c. search needs) (λ c. search needs) (λ c. search needs) (λ c κs. search needs)
     (λ c. let a = c.before.before.before.args in
     unmarked (now a.marks) (passes a.s) (λ b p l m. rw c.enum_told.given.1))

@@ -5,9 +5,9 @@ use Rattle.casefile.specs.Rules.{bit_of}
 use Rattle.casefile.proofs.links.bit_of.Statement.{statement}
 use Rattle.casefile.proofs.links.bit_of.Tie as tie
 
-pub bit-of-spec : {M : Type 1} → statement M
+pub bit_of_spec : {M : Type 1} → statement M
 unfolding bit_of
-bit-of-spec = tie.close (tie.spec
+bit_of_spec = tie.close (tie.spec
     (λ c. rw c.match.keys1 (ap (λ (n : ℕ). n % 2) (sym (div-one c.before.args.mask))))
     (λ c. rw c.match.keys2)
     (λ c. rw c.match.keys3)

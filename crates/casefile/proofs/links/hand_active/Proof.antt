@@ -1,13 +1,13 @@
 -- `casefile::links::hand_active` meets its contract: a port past the last, or its link and its bit of the mask.
 use Rattle.wire.proofs.Usual.{needs}
 use borrow.Author.Tests.{le-leb, lt-leb}
-use Rattle.casefile.specs.Rules.{handActive}
+use Rattle.casefile.specs.Rules.{hand_active}
 use Rattle.casefile.proofs.links.hand_active.Statement.{statement}
 use Rattle.casefile.proofs.links.hand_active.Tie as tie
 
-pub hand-active-spec : {M : Type 1} → statement M
-unfolding handActive
-hand-active-spec = tie.close (tie.spec
+pub hand_active_spec : {M : Type 1} → statement M
+unfolding hand_active
+hand_active_spec = tie.close (tie.spec
     (λ c. rw (le-leb 4 _ c.if1.true))
     (λ c κs. search needs) (λ c κs. search needs) (λ c κs. search needs) (λ c κs. search needs)
     (λ c κs. search needs)

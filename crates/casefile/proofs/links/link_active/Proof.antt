@@ -1,13 +1,13 @@
 -- `casefile::links::link_active` meets its contract: the clause of the family.
-use Rattle.casefile.specs.Rules.{linkActiveOf}
+use Rattle.casefile.specs.Rules.{link_active_of}
 use Rattle.casefile.proofs.Families.{told}
 use Rattle.wire.proofs.Usual.{needs}
 use Rattle.casefile.proofs.links.link_active.Statement.{statement}
 use Rattle.casefile.proofs.links.link_active.Tie as tie
 
-pub link-active-spec : {M : Type 1} → statement M
-unfolding linkActiveOf
-link-active-spec = tie.close (tie.spec
+pub link_active_spec : {M : Type 1} → statement M
+unfolding link_active_of
+link_active_spec = tie.close (tie.spec
     (λ c κs. search needs) (λ c κs. search needs) (λ c. search needs) (λ c. search needs) (λ c κs. search needs)
     (λ c. search needs) (λ c. search needs)
     (λ c. let f = c.before.before in

@@ -2,14 +2,14 @@
 use Rattle.wire.proofs.Usual.{◌≡◌, refl, ap, ◌∙◌, ◌-◌, ◌<◌, arith, needs, now}
 use lib.ListN.{get_or-replicate}
 use Rattle.wire.proofs.Places.{Passed, begin, more, hit, done}
-use Rattle.casefile.proofs.Numbers.{Seen, too-high, seen-before, not_seen, seen_more, seen_none}
-use Rattle.project.specs.Project.{blockCount, order_in, order_of}
-use Rattle.casefile.specs.Rules.{orderOk}
+use Rattle.casefile.proofs.Numbers.{Seen, too_high, seen-before, not_seen, seen_more, seen_none}
+use Rattle.project.specs.Project.{block_count, order_in, order_of}
+use Rattle.casefile.specs.Rules.{order_ok}
 use Rattle.casefile.proofs.orders.first_bad_order.Statement.{statement}
 use Rattle.casefile.proofs.orders.first_bad_order.Tie as tie
 
 abbrev invariant-loop : tie.invariant-loop
-invariant-loop blocks n seen₀ b₀ seen b = Passed (orderOk blocks) (blockCount blocks) b × Seen blocks b seen
+invariant-loop blocks n seen₀ b₀ seen b = Passed (order_ok blocks) (block_count blocks) b × Seen blocks b seen
 
 abbrev decreases-loop : tie.decreases-loop
 decreases-loop blocks n seen₀ b₀ seen b = n - b
@@ -22,12 +22,12 @@ number c = c.order-of.ensures ∙ ap order_in c.before.block-record.ensures
 
 -- a number that is not too high has a mark
 few : (c : tie.Else1 invariant-loop decreases-loop) → c.before.order-of.result < 64
-unfolding blockCount
+unfolding block_count
 few c = omega (arith, c.before.before.before.before.before.before.requires)
 
-loop-again : tie.Need-loop-preserved invariant-loop decreases-loop
-unfolding blockCount
-loop-again c =
+loop_again : tie.Need-loop-preserved invariant-loop decreases-loop
+unfolding block_count
+loop_again c =
     let e = c.before in
     let d = e.before in
     let h = d.before.before.before in
@@ -36,15 +36,15 @@ loop-again c =
       seen_more _ _ _ _ h.loop.invariant.1 (number d) e.if1.false (few e),
     )
 
-pub first-bad-order-spec : {M : Type 1} → statement M
-unfolding blockCount
-first-bad-order-spec = tie.close (tie.spec
+pub first_bad_order_spec : {M : Type 1} → statement M
+unfolding block_count
+first_bad_order_spec = tie.close (tie.spec
     invariant-loop decreases-loop
     (λ c. (begin _ _, seen_none (now c.before.args.blocks) _ refl (λ e l. get_or-replicate 64 e 0 0 l)))
     (λ c κs. search needs) (λ c κs. search needs) (λ c. search needs)
     (λ c.
     let d = c.before in
-    hit d.before.before.before.loop.invariant.0 (too-high _ _ d.order-of.result (number d) c.if1.true) refl)
+    hit d.before.before.before.loop.invariant.0 (too_high _ _ d.order-of.result (number d) c.if1.true) refl)
     (λ c. few c)
     (λ c.
     let e = c.before in
@@ -53,5 +53,5 @@ first-bad-order-spec = tie.close (tie.spec
     hit h.invariant.0 (seen-before _ _ _ _ h.invariant.1 (number d) e.if1.false (few e) c.if2.true) refl)
     (λ c. few c.before)
     (λ c. search needs) (λ c. search needs)
-    loop-again
+    loop_again
     (λ c. done c.before.loop.invariant.0 c.loop-test.false))

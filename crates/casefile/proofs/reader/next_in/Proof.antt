@@ -4,9 +4,9 @@ use Rattle.casefile.specs.Bodies.{start_in}
 use Rattle.casefile.proofs.reader.next_in.Statement.{statement}
 use Rattle.casefile.proofs.reader.next_in.Tie as tie
 
-pub next-in-spec : {M : Type 1} → statement M
+pub next_in_spec : {M : Type 1} → statement M
 unfolding start_in
-next-in-spec = tie.close (tie.spec
+next_in_spec = tie.close (tie.spec
     (λ c. rw c.match.keys1)
     (λ c. rw c.match.keys2)
     (λ c. rw c.match.keys3)

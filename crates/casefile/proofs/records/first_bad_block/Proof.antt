@@ -2,13 +2,13 @@
 -- at the first other.
 use Rattle.wire.proofs.Usual.{◌≡◌, ◌∙◌, ◌-◌, needs, now}
 use Rattle.wire.proofs.Places.{Passed, begin, more, hit, done}
-use Rattle.project.specs.Project.{blockCount}
-use Rattle.casefile.specs.Rules.{blockRule, blockRecordOk}
+use Rattle.project.specs.Project.{block_count}
+use Rattle.casefile.specs.Rules.{block_rule, block_record_ok}
 use Rattle.casefile.proofs.records.first_bad_block.Statement.{statement}
 use Rattle.casefile.proofs.records.first_bad_block.Tie as tie
 
 abbrev invariant-loop : tie.invariant-loop
-invariant-loop groups blocks device h n k₀ k = Passed (blockRecordOk groups blocks) (blockCount blocks) k
+invariant-loop groups blocks device h n k₀ k = Passed (block_record_ok groups blocks) (block_count blocks) k
 
 abbrev decreases-loop : tie.decreases-loop
 decreases-loop groups blocks device h n k₀ k = n - k
@@ -17,18 +17,18 @@ decreases-loop groups blocks device h n k₀ k = n - k
 test : (c : tie.After-block-rule invariant-loop decreases-loop) →
     let l = c.before.before.before in
     let a = l.before.before.before.before.before.args in
-    c.block-rule.result ≡ blockRecordOk (now a.groups) (now a.blocks) l.loop.k
-unfolding blockRecordOk
+    c.block-rule.result ≡ block_record_ok (now a.groups) (now a.blocks) l.loop.k
+unfolding block_record_ok
 test c =
     let l = c.before.before.before in
     let h = l.before in
     c.block-rule.ensures
-    ∙ (λ i. blockRule (h.before.device-in.ensures i) (h.group-count.ensures i)
+    ∙ (λ i. block_rule (h.before.device_in.ensures i) (h.group-count.ensures i)
     (c.before.block-record.ensures i))
 
-pub first-bad-block-spec : {M : Type 1} → statement M
-unfolding blockCount
-first-bad-block-spec = tie.close (tie.spec
+pub first_bad_block_spec : {M : Type 1} → statement M
+unfolding block_count
+first_bad_block_spec = tie.close (tie.spec
     invariant-loop decreases-loop
     (λ c κs. search needs) (λ c κs. search needs)
     (λ c. begin _ _)

@@ -2,13 +2,13 @@
 -- at the first other.
 use Rattle.wire.proofs.Usual.{◌≡◌, ◌∙◌, ◌-◌, needs, now}
 use Rattle.wire.proofs.Places.{Passed, begin, more, hit, done}
-use Rattle.project.specs.Project.{inputCount}
-use Rattle.casefile.specs.Rules.{inputRule, inputRecordOk}
+use Rattle.project.specs.Project.{input_count}
+use Rattle.casefile.specs.Rules.{input_rule, input_record_ok}
 use Rattle.casefile.proofs.records.first_bad_input.Statement.{statement}
 use Rattle.casefile.proofs.records.first_bad_input.Tie as tie
 
 abbrev invariant-loop : tie.invariant-loop
-invariant-loop groups inputs h n k₀ k = Passed (inputRecordOk groups inputs) (inputCount inputs) k
+invariant-loop groups inputs h n k₀ k = Passed (input_record_ok groups inputs) (input_count inputs) k
 
 abbrev decreases-loop : tie.decreases-loop
 decreases-loop groups inputs h n k₀ k = n - k
@@ -17,16 +17,16 @@ decreases-loop groups inputs h n k₀ k = n - k
 test : (c : tie.After-input-rule invariant-loop decreases-loop) →
     let l = c.before.before.before in
     let a = l.before.before.before.before.args in
-    c.input-rule.result ≡ inputRecordOk (now a.groups) (now a.inputs) l.loop.k
-unfolding inputRecordOk
+    c.input-rule.result ≡ input_record_ok (now a.groups) (now a.inputs) l.loop.k
+unfolding input_record_ok
 test c =
     let l = c.before.before.before in
     let h = l.before.group-count.ensures in
-    c.input-rule.ensures ∙ (λ i. inputRule (h i) (c.before.input-record.ensures i))
+    c.input-rule.ensures ∙ (λ i. input_rule (h i) (c.before.input-record.ensures i))
 
-pub first-bad-input-spec : {M : Type 1} → statement M
-unfolding inputCount
-first-bad-input-spec = tie.close (tie.spec
+pub first_bad_input_spec : {M : Type 1} → statement M
+unfolding input_count
+first_bad_input_spec = tie.close (tie.spec
     invariant-loop decreases-loop
     (λ c κs. search needs)
     (λ c. begin _ _)

@@ -1,12 +1,12 @@
 -- `casefile::records::output_rule` meets its contract: one test after the other.
 use Rattle.wire.proofs.Usual.{refl, needs}
-use Rattle.casefile.specs.Rules.{outputRule}
+use Rattle.casefile.specs.Rules.{output_rule}
 use Rattle.casefile.proofs.records.output_rule.Statement.{statement}
 use Rattle.casefile.proofs.records.output_rule.Tie as tie
 
-pub output-rule-spec : {M : Type 1} → statement M
-unfolding outputRule
-output-rule-spec = tie.close (tie.spec
+pub output_rule_spec : {M : Type 1} → statement M
+unfolding output_rule
+output_rule_spec = tie.close (tie.spec
     (λ c κs. search needs) (λ c. search needs) (λ c κs. search needs) (λ c. search needs) (λ c κs. search needs)
     (λ c κs. search needs) (λ c κs. search needs) (λ c κs. search needs) (λ c κs. search needs)
     (λ c.
@@ -18,7 +18,7 @@ output-rule-spec = tie.close (tie.spec
     let g = b.before in
     rw (
       g.output-group.ensures,
-      b.output-block.ensures,
+      b.output_block_is.ensures,
       q.output-port.ensures,
       p.ports-out.ensures,
       k.kind-of.ensures,

@@ -2,14 +2,14 @@
 use Rattle.wire.proofs.Usual.{◌<◌, arith, eqb, needs, now}
 use Rattle.wire.specs.Places.{all}
 use Rattle.wire.proofs.Places.{all-is}
-use Rattle.project.specs.Project.{inputCount, blockCount, outputCount}
-use Rattle.casefile.specs.Refusal.{refusalOf}
-use Rattle.casefile.proofs.Facts.{few-groups, inputs-whole, blocks-whole}
+use Rattle.project.specs.Project.{input_count, block_count, output_count}
+use Rattle.casefile.specs.Refusal.{refusal_of}
+use Rattle.casefile.proofs.Facts.{few-groups, inputs_whole, blocks_whole}
 use Rattle.casefile.proofs.table.keeps.Statement.{statement}
 use Rattle.casefile.proofs.table.keeps.Tie as tie
 
 pub keeps_spec : {M : Type 1} → statement M
-unfolding all inputCount blockCount outputCount
+unfolding all input_count block_count output_count
 keeps_spec = tie.close (tie.spec
     (λ c. search needs) (λ c κs. search needs) (λ c. search needs) (λ c κs. search needs) (λ c. search needs)
     (λ c κs. search needs) (λ c. search needs) (λ c κs. search needs) (λ c κs. search needs) (λ c. search needs)
@@ -17,18 +17,18 @@ keeps_spec = tie.close (tie.spec
     (λ c. search needs) (λ c κs. search needs) (λ c. search needs)
     (λ c κs.
     let a = c.before.before.before.before.before.before.before.before in
-    (blocks-whole (now a.args.b) (a.requires.blocks (rw c.enum-told9.given.1 (omega arith)))).few)
+    (blocks_whole (now a.args.b) (a.requires.blocks (rw c.enum-told9.given.1 (omega arith)))).few)
     (λ c. search needs) (λ c κs. search needs) (λ c. search needs) (λ c κs. search needs) (λ c. search needs)
     (λ c κs. search needs) (λ c. search needs)
     (λ c κs.
     let a = c.before.before.before.before.before.before.before.before in
-    (blocks-whole (now a.args.b) (a.requires.blocks (rw c.enum-told13.given.1 (omega arith)))).few)
+    (blocks_whole (now a.args.b) (a.requires.blocks (rw c.enum-told13.given.1 (omega arith)))).few)
     (λ c. search needs)
     (λ c κs.
     let a = c.before.before.before.before.before.before.before.before in
-    let high : 5 < refusalOf a.args.r = rw c.enum-told14.given.1 (omega arith) in (
+    let high : 5 < refusal_of a.args.r = rw c.enum-told14.given.1 (omega arith) in (
       few-groups (now a.args.g) (a.requires.groups (omega arith)),
-      (inputs-whole (now a.args.i) (a.requires.inputs (omega arith))).few,
+      (inputs_whole (now a.args.i) (a.requires.inputs (omega arith))).few,
     ))
     (λ c. rw c.before.enum_told.given.1 c.Size-ok.ensures)
     (λ c. rw c.before.enum-told2.given.1 c.ok.ensures)

@@ -9,11 +9,11 @@ use Rattle.evaluator.proofs.advance.advance.Tie as tie
 abbrev start_of : tie.After-decide → tie.Start
 start_of c = c.before.before.before.before.before.before.before.before.before
 
-abbrev decided-of : tie.After-take-turns → tie.After-decide
-decided-of c = c.before.before.before.before.before.before
+abbrev decided_of : tie.After-take-turns → tie.After-decide
+decided_of c = c.before.before.before.before.before.before
 
-take-turns-requires : tie.Need-take-turns-requires
-take-turns-requires c κs =
+take_turns_requires : tie.Need-take-turns-requires
+take_turns_requires c κs =
     let d = c.before.before.before.before.before in
     let s = start_of d in
     let a = s.args in
@@ -23,7 +23,7 @@ take-turns-requires c κs =
 returns : tie.Need-returns
 returns c =
     let r = c.before.before.before.before.before in
-    let d = decided-of r in
+    let d = decided_of r in
     let s = start_of d in
     let a = s.args in
     let none = r.take-turns.ensures.1.1 (not-true r.take-turns.result c.if1.true) in (
@@ -34,20 +34,20 @@ returns c =
       ),
     )
 
-pack-requires : tie.Need-pack-requires
-pack-requires c κs =
+pack_requires : tie.Need-pack-requires
+pack_requires c κs =
     let r = c.before.before.before.before.before.before in
-    let d = decided-of r in
+    let d = decided_of r in
     let s = start_of d in
     let a = s.args in
     packable s.pre _ _ d.decide.ensures.0 d.decide.ensures.1 _ r.take-turns.ensures.1.0
 
 -- some block may have
-returns-2 : tie.Need-returns-2
-returns-2 c =
+returns_2 : tie.Need-returns-2
+returns_2 c =
     let p = c.before.before in
     let r = p.before.before.before.before.before.before.before in
-    let d = decided-of r in
+    let d = decided_of r in
     let s = start_of d in
     let a = s.args in (
       ran-state s.pre _ _ d.decide.ensures.0 d.decide.ensures.1 _ r.take-turns.ensures.0,
@@ -59,8 +59,8 @@ returns-2 c =
       ),
     )
 
-pub advance-spec : {M : Type 1} → statement M
-advance-spec = tie.close (tie.spec
+pub advance_spec : {M : Type 1} → statement M
+advance_spec = tie.close (tie.spec
     (λ c κs.
     let s = c.before.before.before.before.before.before.before.before in
     let a = s.args in (
@@ -68,8 +68,8 @@ advance-spec = tie.close (tie.spec
       heads-fit s.requires,
     ))
     (λ c. search needs)
-    take-turns-requires
+    take_turns_requires
     (λ c. search needs) (λ c. search needs)
-    returns pack-requires
+    returns pack_requires
     (λ c. search needs) (λ c. search needs)
-    returns-2)
+    returns_2)

@@ -9,8 +9,8 @@ use Rattle.evaluator.proofs.advance.whole_cycle.Tie as tie
 abbrev start_of : tie.After-ranks → tie.Start
 start_of c = c.before.before.before.before.before.before.before.before.before.before.before.before
 
-advance-requires : tie.Need-advance-requires
-advance-requires c κs =
+advance_requires : tie.Need-advance-requires
+advance_requires c κs =
     let e = c.before.before.before.before in
     let k = e.before.before in
     let s = start_of k in
@@ -27,8 +27,8 @@ returns c =
     let e = v.advance.ensures in
     (e.0, (shown-new s.pre _ _ e.0 w.write-outputs.ensures, (e.1.0, e.1.1)))
 
-pub whole-cycle-spec : {M : Type 1} → statement M
-whole-cycle-spec = tie.close (tie.spec
+pub whole_cycle_spec : {M : Type 1} → statement M
+whole_cycle_spec = tie.close (tie.spec
     (λ c κs. search needs)
     (λ c κs.
     let s = c.before.before.before.before.before.before.before.before.before.before.before in
@@ -41,7 +41,7 @@ whole-cycle-spec = tie.close (tie.spec
       in-groups s.pre,
     ))
     (λ c. search needs) (λ c. search needs)
-    advance-requires
+    advance_requires
     (λ c κs.
     let v = c.before.before.before.before.before.before in
     let k = v.before.before.before.before.before.before.before in

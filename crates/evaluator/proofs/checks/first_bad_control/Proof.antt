@@ -2,14 +2,14 @@
 -- the first other.
 use Rattle.wire.proofs.Usual.{◌≡◌, ◌∙◌, ◌-◌, arith, needs, now}
 use Rattle.wire.proofs.Places.{Passed, begin, more, hit, done}
-use Rattle.kind.specs.Devices.{controlRule}
-use Rattle.project.specs.Project.{groupCount, device}
-use Rattle.evaluator.specs.Answer.{controlOk}
+use Rattle.kind.specs.Devices.{control_rule}
+use Rattle.project.specs.Project.{group_count, device}
+use Rattle.evaluator.specs.Answer.{control_ok}
 use Rattle.evaluator.proofs.checks.first_bad_control.Statement.{statement}
 use Rattle.evaluator.proofs.checks.first_bad_control.Tie as tie
 
 abbrev invariant-loop : tie.invariant-loop
-invariant-loop groups rec device n g₀ g = Passed (controlOk groups rec) (groupCount groups) g
+invariant-loop groups rec device n g₀ g = Passed (control_ok groups rec) (group_count groups) g
 
 abbrev decreases-loop : tie.decreases-loop
 decreases-loop groups rec device n g₀ g = n - g
@@ -21,15 +21,15 @@ start_of c = c.before.before.before
 tested : (c : tie.After-control-rule invariant-loop decreases-loop) →
     let l = c.before.before.before.before in
     let a = (start_of l).args in
-    c.control-rule.result ≡ controlOk (now a.groups) (now a.rec) l.loop.g
-unfolding controlOk
+    c.control-rule.result ≡ control_ok (now a.groups) (now a.rec) l.loop.g
+unfolding control_ok
 tested c =
     let s = start_of c.before.before.before.before in
-    c.control-rule.ensures ∙ (λ i. controlRule (s.pre.0.0 i) (c.before.before.run-linked.ensures i)
+    c.control-rule.ensures ∙ (λ i. control_rule (s.pre.0.0 i) (c.before.before.run-linked.ensures i)
     (c.before.byte.ensures i))
 
-pub first-bad-control-spec : {M : Type 1} → statement M
-first-bad-control-spec = tie.close (tie.spec
+pub first_bad_control_spec : {M : Type 1} → statement M
+first_bad_control_spec = tie.close (tie.spec
     invariant-loop decreases-loop
     (λ c. begin _ _)
     (λ c κs. search needs)

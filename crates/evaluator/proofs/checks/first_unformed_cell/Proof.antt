@@ -2,24 +2,24 @@
 -- stops at the first other.
 use Rattle.wire.proofs.Usual.{◌-◌, arith, needs, refl}
 use Rattle.wire.proofs.Places.{Passed, begin, more, hit, done}
-use Rattle.project.specs.Project.{blockCount}
-use Rattle.evaluator.specs.State.{cellFormed}
+use Rattle.project.specs.Project.{block_count}
+use Rattle.evaluator.specs.State.{cell_formed}
 use Rattle.evaluator.proofs.checks.first_unformed_cell.Statement.{statement}
 use Rattle.evaluator.proofs.checks.first_unformed_cell.Tie as tie
 
 abbrev invariant-loop : tie.invariant-loop
-invariant-loop blocks state h n b₀ b = Passed (cellFormed h blocks state) (blockCount blocks) b
+invariant-loop blocks state h n b₀ b = Passed (cell_formed h blocks state) (block_count blocks) b
 
 abbrev decreases-loop : tie.decreases-loop
 decreases-loop blocks state h n b₀ b = n - b
 
-pub first-unformed-cell-spec : {M : Type 1} → statement M
-first-unformed-cell-spec = tie.close (tie.spec
+pub first_unformed_cell_spec : {M : Type 1} → statement M
+first_unformed_cell_spec = tie.close (tie.spec
     invariant-loop decreases-loop
     (λ c. begin _ _)
     (λ c κs.
     let s = c.before.before.before.before in (
-      record { count = refl; few = s.requires.few; long = s.requires.long; fewGroups = s.requires.fewGroups },
+      record { count = refl; few = s.requires.few; long = s.requires.long; few_groups = s.requires.few_groups },
       omega
           (arith, c.loop-test.true, s.requires.count),
     ))

@@ -12,5 +12,5 @@ returns c =
     eqb (c.before.first-unformed-group.ensures i) s.args.c.groups
     && eqb (c.first-unformed-cell.ensures i) (s.requires.count i)
 
-pub state-ok-spec : {M : Type 1} → statement M
-state-ok-spec = tie.close (tie.spec (λ c κs. c.before.before.requires.fewGroups) (λ c κs. search needs) returns)
+pub state_ok_spec : {M : Type 1} → statement M
+state_ok_spec = tie.close (tie.spec (λ c κs. c.before.before.requires.few_groups) (λ c κs. search needs) returns)

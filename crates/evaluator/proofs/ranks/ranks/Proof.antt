@@ -2,7 +2,7 @@
 use Rattle.wire.proofs.Usual.{◌≡◌, refl, ap, ◌∙◌, subst, ◌-◌, ◌<◌, arith, needs, now}
 use Rattle.project.specs.Project.{order_in, order_of}
 use Rattle.evaluator.proofs.Reading.{record_is}
-use Rattle.evaluator.proofs.Ranking.{Ranking, ranking-start, ranking-turn, ranking-end}
+use Rattle.evaluator.proofs.Ranking.{Ranking, ranking_start, ranking-turn, ranking-end}
 use Rattle.evaluator.proofs.ranks.ranks.Statement.{statement}
 use Rattle.evaluator.proofs.ranks.ranks.Tie as tie
 
@@ -27,10 +27,10 @@ small c =
     let s = l.before.before in
     omega (arith, order_is c, s.requires.below l.loop.b c.before.before.loop-test.true, s.requires.few)
 
-pub ranks-spec : {M : Type 1} → statement M
-ranks-spec = tie.close (tie.spec
+pub ranks_spec : {M : Type 1} → statement M
+ranks_spec = tie.close (tie.spec
     invariant-loop decreases-loop
-    (λ c. ranking-start _ _)
+    (λ c. ranking_start _ _)
     (λ c. omega (arith, c.loop-test.true, c.before.before.before.requires.few))
     (λ c κs. omega (arith, c.loop-test.true, c.before.before.before.requires.long))
     (λ c κs. search needs) (λ c. search needs) (λ c. search needs)

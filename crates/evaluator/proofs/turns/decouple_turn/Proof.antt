@@ -1,11 +1,11 @@
 -- `evaluator::turns::decouple_turn` meets its contract: the channels are gathered, and the block's bytes become its
 -- step's.
 use Rattle.wire.proofs.Usual.{◌≡◌, sym, ◌∙◌, false, needs, now, eqb}
-use Rattle.block.specs.Step.{decoupleStep, decoupleBytes}
-use Rattle.block.specs.State.{entersFrom}
+use Rattle.block.specs.Step.{decouple_step, decouple_bytes}
+use Rattle.block.specs.State.{enters_from}
 use Rattle.block.proofs.Enters.{holds-enters}
 use Rattle.evaluator.specs.Asks.{turned}
-use Rattle.evaluator.proofs.Turning.{lentTo, left_is, entering-is, decouple-turned}
+use Rattle.evaluator.proofs.Turning.{lent_to, left_is, entering-is, decouple-turned}
 use Rattle.evaluator.proofs.turns.decouple_turn.Statement.{statement}
 use Rattle.evaluator.proofs.turns.decouple_turn.Tie as tie
 
@@ -14,14 +14,14 @@ start_of c = c.before.before.before.before.before.before
 
 made : (c : tie.After-port-bits) →
     let a = (start_of c).args in
-    decoupleBytes a.phase c.port-bits.result
+    decouple_bytes a.phase c.port-bits.result
     ≡ turned a.h (now a.blocks) (now a.rec) a.phase (now a.state) a.b
 made c = let p = (start_of c).requires in decouple-turned p.1.1.0 p.1.1.1.1 _ c.port-bits.ensures
 
 never : (c : tie.After-port-bits) →
     let a = (start_of c).args in
-    entersFrom (lentTo a.h (now a.state) a.b) (decoupleBytes a.phase c.port-bits.result) ≡ false
-unfolding decoupleBytes decoupleStep
+    enters_from (lent_to a.h (now a.state) a.b) (decouple_bytes a.phase c.port-bits.result) ≡ false
+unfolding decouple_bytes decouple_step
 never c = holds-enters (eqb (start_of c).args.phase 1) _ _
 
 returns : tie.Need-returns
@@ -36,8 +36,8 @@ returns c =
       (entered, sym entered ∙ d.decouple-step.ensures.1 ∙ never k),
     )
 
-pub decouple-turn-spec : {M : Type 1} → statement M
-decouple-turn-spec = tie.close (tie.spec
+pub decouple_turn_spec : {M : Type 1} → statement M
+decouple_turn_spec = tie.close (tie.spec
     (λ c κs. search needs) (λ c. search needs) (λ c. search needs) (λ c. search needs) (λ c. search needs)
     (λ c. search needs) (λ c. search needs) (λ c. search needs) (λ c κs. search needs) (λ c. search needs)
     returns)

@@ -1,7 +1,7 @@
 -- `evaluator::turns::note` meets its contract: the block's bytes are read where they stand.
 use Rattle.wire.proofs.Usual.{◌∙◌, ◌*◌, ◌<◌, arith, needs, sets, now}
 use native.Mathlib.Nat.{mod-eq_of_lt}
-use Rattle.block.specs.Finding.{findingSize, findingOf}
+use Rattle.block.specs.Finding.{finding_size, finding_of}
 use Rattle.evaluator.proofs.Reading.{cell-is}
 use Rattle.evaluator.proofs.turns.note.Statement.{statement}
 use Rattle.evaluator.proofs.turns.note.Tie as tie
@@ -16,15 +16,15 @@ returns c =
     let small : a.b < 256 = omega (arith, s.requires) in
     q.put.ensures
     ∙ (λ i.
-    sets (now a.findings) (findingSize * a.b)
+    sets (now a.findings) (finding_size * a.b)
     ((f.finding.ensures
     ∙ (λ j.
-    findingOf (mod-eq_of_lt small j) (f.before.before.Group-of.ensures j)
+    finding_of (mod-eq_of_lt small j) (f.before.before.Group-of.ensures j)
     (f.before.kind-of.ensures j) a.x a.y ((p.part_at.ensures ∙ cell-is a.h (now a.state) a.b) j)))
     i))
 
-pub note-spec : {M : Type 1} → statement M
-note-spec = tie.close (tie.spec
+pub note_spec : {M : Type 1} → statement M
+note_spec = tie.close (tie.spec
     (λ c. search needs) (λ c. search needs) (λ c. search needs) (λ c. search needs) (λ c κs. search needs)
     (λ c κs. search needs) (λ c κs. search needs) (λ c κs. search needs) (λ c. search needs) (λ c. search needs)
     (λ c κs. search needs) (λ c. search needs)

@@ -22,8 +22,8 @@ returns c =
     shown-word a.h (now a.blocks) (now a.state) _ _ _ _ _ _ _ r.part_at.ensures k.kind-of.ensures
     c.before.parameters-of.ensures q.part-at2.ensures c.shows.ensures
 
-pub port-shows-spec : {M : Type 1} → statement M
-port-shows-spec = tie.close (tie.spec
+pub port_shows_spec : {M : Type 1} → statement M
+port_shows_spec = tie.close (tie.spec
     (λ c. search needs)
     (λ c κs. let s = start_of c in record-there s.pre.0 _ s.pre.1)
     (λ c. omega (arith, few c))

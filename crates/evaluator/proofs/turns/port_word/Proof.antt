@@ -8,23 +8,23 @@ use Rattle.evaluator.proofs.turns.port_word.Tie as tie
 abbrev start_of : tie.After-shared-slice-known3 → tie.Start
 start_of c = c.before.before.before
 
-returns-2 : tie.Need-returns-2
-returns-2 c =
+returns_2 : tie.Need-returns-2
+returns_2 c =
     let s = start_of c.before.before.before.before.before in
     let a = s.args in
     rw c.before.before.before.source.given.1
     (external-word a.h (now a.blocks) (now a.rec) (now a.state) _ _ _ c.before.part_at.ensures
     c.read32.ensures)
 
-returns-3 : tie.Need-returns-3
-returns-3 c =
+returns_3 : tie.Need-returns-3
+returns_3 c =
     let s = start_of c.before.before.before.before in
     let a = s.args in
     rw c.before.before.source2.given.1
     (output-word a.h (now a.blocks) (now a.rec) (now a.state) _ _ _ c.port-shows.ensures)
 
-pub port-word-spec : {M : Type 1} → statement M
-port-word-spec = tie.close (tie.spec
+pub port_word_spec : {M : Type 1} → statement M
+port_word_spec = tie.close (tie.spec
     (λ c. search needs) (λ c. search needs)
     (λ c. omega (arith, (start_of c.before.before.before).requires.0.few))
     (λ c. search needs) (λ c. search needs)
@@ -36,4 +36,4 @@ port-word-spec = tie.close (tie.spec
     (λ c κs. let s = start_of c.before.before.before in
     (s.pre.0, s.pre.1.output _ _ c.before.source2.given.1))
     (λ c. search needs)
-    returns-2 returns-3)
+    returns_2 returns_3)

@@ -4,9 +4,9 @@
 use Rattle.wire.proofs.Usual.{◌≡◌, refl, sym, ap, ◌∙◌, subst, Bool, true, false, ◌||◌, true≢false, ℕ, ◌+◌, ◌-◌}
 use Rattle.wire.proofs.Usual.{◌*◌, ◌<◌, zero-add, arith, needs, length, length-replicate, now}
 use Rattle.project.specs.Project.{order_of}
-use Rattle.block.specs.State.{stateSize}
-use Rattle.block.specs.Finding.{findingSize}
-use Rattle.evaluator.specs.State.{stateHead}
+use Rattle.block.specs.State.{state_size}
+use Rattle.block.specs.Finding.{finding_size}
+use Rattle.evaluator.specs.State.{state_head}
 use Rattle.evaluator.proofs.Reading.{standing_on}
 use Rattle.evaluator.proofs.Running.{Held, held_start, held-turn, held-state, held-findings, held_none}
 use Rattle.evaluator.proofs.turns.take_turns.Statement.{statement}
@@ -37,8 +37,8 @@ block c =
     let r = s.pre.ranked.each l.loop.e c.before.loop-test.true in
     (rw c.byte_at.ensures r.0, rw c.byte_at.ensures r.1)
 
-loop-again : tie.Need-loop-preserved invariant-loop decreases-loop
-loop-again c =
+loop_again : tie.Need-loop-preserved invariant-loop decreases-loop
+loop_again c =
     let t = c.before.before.before.before in
     let y = t.before.before.before in
     let l = y.before.before in
@@ -80,8 +80,8 @@ returns c =
       ),
     )
 
-pub take-turns-spec : {M : Type 1} → statement M
-take-turns-spec = tie.close (tie.spec
+pub take_turns_spec : {M : Type 1} → statement M
+take_turns_spec = tie.close (tie.spec
     invariant-loop decreases-loop
     (λ c.
     let s = c.before.before.before.before.before.before in
@@ -95,13 +95,13 @@ take-turns-spec = tie.close (tie.spec
     let l = y.before.before in
     (standing_on s.pre.standing l.loop.invariant.cells.long s.pre.count, s.pre.due _ (block y).0))
     (λ c. search needs) (λ c. search needs)
-    loop-again
+    loop_again
     (λ c. let l = c.before in l.loop.invariant.cells.long
     ∙ sym ((start_of l).requires.standing.state
-    ∙ ap (λ (k : ℕ). stateHead (start_of l).args.h + stateSize * k) (sym (start_of l).requires.count)))
+    ∙ ap (λ (k : ℕ). state_head (start_of l).args.h + state_size * k) (sym (start_of l).requires.count)))
     (λ c.
     let l = c.before in
     let s = start_of l in
-    l.loop.invariant.notes.long ∙ zero-add (findingSize * s.args.n)
-    ∙ sym (ap length s.pre.clean ∙ length-replicate {A = ℕ} (findingSize * s.args.n) 0))
+    l.loop.invariant.notes.long ∙ zero-add (finding_size * s.args.n)
+    ∙ sym (ap length s.pre.clean ∙ length-replicate {A = ℕ} (finding_size * s.args.n) 0))
     returns)

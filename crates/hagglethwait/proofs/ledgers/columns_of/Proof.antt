@@ -1,7 +1,7 @@
 -- `hagglethwait::ledgers::columns_of` meets its contract: the loop fills three columns month by month (`Halves`).
 use Rattle.wire.proofs.Usual.{refl, ◌-◌, needs}
-use Rattle.year.specs.Ledger.{monthCount}
-use Rattle.hagglethwait.specs.Ledgers.{columnsOf}
+use Rattle.year.specs.Ledger.{month_count}
+use Rattle.hagglethwait.specs.Ledgers.{columns_of}
 use Rattle.hagglethwait.proofs.Halves.{Halves, halves-begin, halves-more, halves-done}
 use Rattle.hagglethwait.proofs.ledgers.columns_of.Statement.{statement}
 use Rattle.hagglethwait.proofs.ledgers.columns_of.Tie as tie
@@ -13,11 +13,11 @@ invariant-loop every person findings₀ dismissed₀ rates₀ m₀ findings dism
     × Halves (λ l. l.rate) every person rates m
 
 abbrev decreases-loop : tie.decreases-loop
-decreases-loop every person findings₀ dismissed₀ rates₀ m₀ findings dismissed rates m = monthCount - m
+decreases-loop every person findings₀ dismissed₀ rates₀ m₀ findings dismissed rates m = month_count - m
 
-pub columns-of-spec : {M : Type 1} → statement M
-unfolding columnsOf
-columns-of-spec = tie.close (tie.spec
+pub columns_of_spec : {M : Type 1} → statement M
+unfolding columns_of
+columns_of_spec = tie.close (tie.spec
     invariant-loop decreases-loop
     (λ c. (halves-begin _ _ _ _ refl refl, halves-begin _ _ _ _ refl refl, halves-begin _ _ _ _ refl refl))
     (λ c. search needs) (λ c. search needs) (λ c. search needs) (λ c. search needs) (λ c. search needs)

@@ -4,7 +4,7 @@ use Rattle.kind.specs.Masks.{meets}
 use Rattle.kind.proofs.devices.meets.Statement.{statement}
 use Rattle.kind.proofs.devices.meets.Tie as tie
 
-pub meets-spec : {M : Type 1} → statement M
+pub meets_spec : {M : Type 1} → statement M
 unfolding meets
-meets-spec = tie.close (tie.spec
+meets_spec = tie.close (tie.spec
     (λ c. refl))

@@ -3,8 +3,8 @@ use Rattle.wire.proofs.Usual.{needs}
 use Rattle.kind.proofs.parameters.limits_of.Statement.{statement}
 use Rattle.kind.proofs.parameters.limits_of.Tie as tie
 
-pub limits-of-spec : {M : Type 1} → statement M
-limits-of-spec = tie.close (tie.spec
+pub limits_of_spec : {M : Type 1} → statement M
+limits_of_spec = tie.close (tie.spec
     (λ c κs. search needs) (λ c κs. search needs) (λ c κs. search needs)
     (λ c. λ i. record {
       first = c.before.before.read16.ensures i;

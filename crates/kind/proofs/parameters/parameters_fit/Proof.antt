@@ -1,13 +1,13 @@
 -- `kind::parameters_fit` meets its contract: the clause of the family, the spare bytes four at a time.
 use Rattle.wire.proofs.Usual.{now, needs}
-use Rattle.kind.specs.Parameters.{parametersFit}
+use Rattle.kind.specs.Parameters.{parameters_fit}
 use Rattle.kind.proofs.Zeros.{and_assoc, zeros4, zeros8, zeros12}
 use Rattle.kind.proofs.parameters.parameters_fit.Statement.{statement}
 use Rattle.kind.proofs.parameters.parameters_fit.Tie as tie
 
-pub parameters-fit-spec : {M : Type 1} → statement M
-unfolding parametersFit
-parameters-fit-spec = tie.close (tie.spec
+pub parameters_fit_spec : {M : Type 1} → statement M
+unfolding parameters_fit
+parameters_fit_spec = tie.close (tie.spec
     (λ c. search needs) (λ c κs. search needs) (λ c κs. search needs) (λ c κs. search needs) (λ c. search needs)
     (λ c κs. search needs) (λ c κs. search needs) (λ c κs. search needs) (λ c κs. search needs)
     (λ c κs. search needs) (λ c. search needs) (λ c κs. search needs) (λ c κs. search needs)

@@ -3,8 +3,8 @@ use Rattle.wire.proofs.Usual.{needs}
 use Rattle.kind.proofs.ports.type_in_of.Statement.{statement}
 use Rattle.kind.proofs.ports.type_in_of.Tie as tie
 
-pub type-in-of-spec : {M : Type 1} → statement M
-type-in-of-spec = tie.close (tie.spec
+pub type_in_of_spec : {M : Type 1} → statement M
+type_in_of_spec = tie.close (tie.spec
     (λ c. search needs) (λ c. search needs) (λ c. search needs) (λ c κs. search needs) (λ c. search needs)
     (λ c. search needs) (λ c. search needs)
     (λ c. rw c.before.enum-told3.given.1 c.arithmetic-in.ensures)

@@ -4,8 +4,8 @@ use borrow.Author.Tests.{le-ltb}
 use Rattle.report.proofs.pieces.hex_digit.Statement.{statement}
 use Rattle.report.proofs.pieces.hex_digit.Tie as tie
 
-pub hex-digit-spec : {M : Type 1} → statement M
-hex-digit-spec = tie.close (tie.spec
+pub hex_digit_spec : {M : Type 1} → statement M
+hex_digit_spec = tie.close (tie.spec
     (λ c. search needs) (λ c. search needs)
     (λ c. rw (lt-ltb (c.before.args.n % 16) 10 c.if1.true))
     (λ c. search needs)

@@ -4,7 +4,7 @@ use lib.Seq.{set_out}
 use Rattle.report.proofs.pieces.put_byte.Statement.{statement}
 use Rattle.report.proofs.pieces.put_byte.Tie as tie
 
-pub put-byte-spec : {M : Type 1} → statement M
-put-byte-spec = tie.close (tie.spec
+pub put_byte_spec : {M : Type 1} → statement M
+put_byte_spec = tie.close (tie.spec
     (λ c. search needs) (λ c. search needs) (λ c. search needs)
     (λ c. let a = c.before.args in sym (set_out (now a.out) a.at a.b c.if1.false)))

@@ -11,8 +11,8 @@ returns c =
     let e = number.put-decimal.ensures in
     (put_first 32 space.put_byte.ensures e.0, omega (arith, e.1))
 
-pub put-field-spec : {M : Type 1} → statement M
-put-field-spec =
+pub put_field_spec : {M : Type 1} → statement M
+put_field_spec =
     tie.close (tie.spec (λ c κs. search needs) (λ c. search needs) (λ c κs. search needs)
     (λ c. search needs)
     returns)

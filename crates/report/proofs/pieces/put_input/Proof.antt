@@ -3,17 +3,17 @@
 use Rattle.wire.proofs.Usual.{sym, ap, ◌∙◌, arith, needs}
 use Rattle.numbers.specs.Types.{value}
 use Rattle.numbers.specs.declared.Signed.{Signed}
-use Rattle.numbers.proofs.Range.{value-small}
-use Rattle.report.proofs.Decimal.{signed-minus, signed-plain}
+use Rattle.numbers.proofs.Range.{value_small}
+use Rattle.report.proofs.Decimal.{signed_minus, signed-plain}
 use Rattle.report.proofs.Puts.{put_first, put_second}
 use Rattle.report.proofs.pieces.put_input.Statement.{statement}
 use Rattle.report.proofs.pieces.put_input.Tie as tie
 
-cast-magnitude : tie.Need-overflow-cast-magnitude
-cast-magnitude c =
+cast_magnitude : tie.Need-overflow-cast-magnitude
+cast_magnitude c =
     let a = c.before.before.before.args in
     let magnitude = ap (λ (s : Signed). s.mag) c.before.load.ensures in
-    record { fits = rw magnitude (value-small a.t a.w (search needs)) }
+    record { fits = rw magnitude (value_small a.t a.w (search needs)) }
 
 returns : tie.Need-returns
 returns c =
@@ -26,13 +26,13 @@ returns c =
     let sign = ap (λ (s : Signed). s.neg) load.load.ensures in
     let magnitude = ap (λ (s : Signed). s.mag) load.load.ensures in
     let e = number.put-decimal.ensures in (
-      rw (← (signed-minus z (sym sign ∙ taken.if1.true)), ← magnitude)
+      rw (← (signed_minus z (sym sign ∙ taken.if1.true)), ← magnitude)
           (put_second 32 45 space.put_byte.ensures minus.put-byte2.ensures e.0),
       omega (arith, e.1),
     )
 
-returns-2 : tie.Need-returns-2
-returns-2 c =
+returns_2 : tie.Need-returns-2
+returns_2 c =
     let number = c.before.before in
     let left = number.before.before in
     let space = left.before.before.before in
@@ -46,12 +46,12 @@ returns-2 c =
       omega (arith, e.1),
     )
 
-pub put-input-spec : {M : Type 1} → statement M
-put-input-spec = tie.close (tie.spec
+pub put_input_spec : {M : Type 1} → statement M
+put_input_spec = tie.close (tie.spec
     (λ c κs. search needs)
-    cast-magnitude
+    cast_magnitude
     (λ c κs. search needs) (λ c. search needs) (λ c κs. search needs) (λ c. search needs) (λ c κs. search needs)
     (λ c. search needs)
     returns
     (λ c. search needs) (λ c κs. search needs) (λ c. search needs)
-    returns-2)
+    returns_2)

@@ -19,8 +19,8 @@ returns c =
     said.read-finding.ensures
     (rw (← first.shown-type.ensures, ← second.shown-type2.ensures) line.finding-line.ensures)
 
-pub finding-line-spec : {M : Type 1} → statement M
-finding-line-spec = tie.close (tie.spec
+pub finding_line_spec : {M : Type 1} → statement M
+finding_line_spec = tie.close (tie.spec
     (λ c κs. search needs) (λ c κs. search needs) (λ c κs. search needs) (λ c κs. search needs)
     (λ c. search needs)
     returns)

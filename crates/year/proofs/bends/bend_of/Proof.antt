@@ -1,8 +1,8 @@
 -- `year::bends::bend_of` meets its contract: the loop keeps the best month so far.
 use Rattle.wire.proofs.Usual.{sym, ◌∙◌, ◌-◌, ◌<◌, arith, needs, lt-ltb}
 use mathlib.Core.Logic.{⊎_elim}
-use Rattle.year.specs.Ledger.{monthCount}
-use Rattle.year.specs.Bends.{sidesAt, largest, bendOf}
+use Rattle.year.specs.Ledger.{month_count}
+use Rattle.year.specs.Bends.{sides_at, largest, bend_of}
 use Rattle.year.specs.Asks.{SmallSides}
 use Rattle.year.proofs.Sums.{sides-small}
 use Rattle.year.proofs.Bending.{Top, begin, take, keep, found, nothing}
@@ -11,13 +11,13 @@ use Rattle.year.proofs.bends.bend_of.Tie as tie
 
 abbrev invariant-loop : tie.invariant-loop
 invariant-loop lines has₀ best₀ top₀ m₀ has best top m =
-    SmallSides top × Top (sidesAt lines) monthCount has best top m
+    SmallSides top × Top (sides_at lines) month_count has best top m
 
 abbrev decreases-loop : tie.decreases-loop
-decreases-loop lines has₀ best₀ top₀ m₀ has best top m = monthCount - m
+decreases-loop lines has₀ best₀ top₀ m₀ has best top m = month_count - m
 
-loop-again : tie.Need-loop-preserved invariant-loop decreases-loop
-loop-again c =
+loop_again : tie.Need-loop-preserved invariant-loop decreases-loop
+loop_again c =
     let s = c.before.before in
     let l = s.before in
     let a = l.before in
@@ -36,14 +36,14 @@ loop-again c =
     c.if1.branch
 
 -- the bend is one of the months
-within : (c : tie.Then2 invariant-loop decreases-loop) → c.before.before.loop.best < monthCount
+within : (c : tie.Then2 invariant-loop decreases-loop) → c.before.before.loop.best < month_count
 within c =
     let t = c.before.before.loop.invariant.1 in
     omega (arith, t.below c.if2.true, t.within)
 
-pub bend-of-spec : {M : Type 1} → statement M
-unfolding bendOf largest
-bend-of-spec = tie.close (tie.spec
+pub bend_of_spec : {M : Type 1} → statement M
+unfolding bend_of largest
+bend_of_spec = tie.close (tie.spec
     invariant-loop decreases-loop
     (λ c κs. search needs)
     (λ c. (rw c.sides-at.ensures (sides-small _ c.before.requires 0 (omega arith)), begin _ _ _ _))
@@ -54,7 +54,7 @@ bend-of-spec = tie.close (tie.spec
       c.before.before.loop.invariant.0,
     ))
     (λ c. search needs) (λ c. search needs)
-    loop-again
+    loop_again
     (λ c. record { fits = omega (arith, within c) })
     (λ c. record { fits = omega (arith, within c) })
     (λ c.

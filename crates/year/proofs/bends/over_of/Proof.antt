@@ -4,8 +4,8 @@ use Rattle.year.proofs.Sums.{first-le, second-le, over-le}
 use Rattle.year.proofs.bends.over_of.Statement.{statement}
 use Rattle.year.proofs.bends.over_of.Tie as tie
 
-pub over-of-spec : {M : Type 1} → statement M
-over-of-spec = tie.close (tie.spec
+pub over_of_spec : {M : Type 1} → statement M
+over_of_spec = tie.close (tie.spec
     (λ c. record { fits = omega (arith, first-le c.before.requires) })
     (λ c. search needs)
     (λ c. record { fits = omega (arith, second-le c.before.before.before.requires) })

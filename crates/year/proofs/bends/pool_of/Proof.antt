@@ -1,7 +1,7 @@
 -- `year::bends::pool_of` meets its contract: the loop adds month by month.
 use Rattle.wire.proofs.Usual.{◌≡◌, ap, ◌∙◌, ◌-◌, ◌≤◌, arith, needs}
-use Rattle.year.specs.Bends.{sum_of, line_at, poolOf}
-use Rattle.year.proofs.Sums.{Added, add_begin, add-more}
+use Rattle.year.specs.Bends.{sum_of, line_at, pool_of}
+use Rattle.year.proofs.Sums.{Added, add_begin, add_more}
 use Rattle.year.proofs.bends.pool_of.Statement.{statement}
 use Rattle.year.proofs.bends.pool_of.Tie as tie
 
@@ -13,9 +13,9 @@ invariant-loop start end lines findings₀ dismissed₀ m₀ findings dismissed 
 abbrev decreases-loop : tie.decreases-loop
 decreases-loop start end lines findings₀ dismissed₀ m₀ findings dismissed m = end - m
 
-pub pool-of-spec : {M : Type 1} → statement M
-unfolding poolOf
-pool-of-spec = tie.close (tie.spec
+pub pool_of_spec : {M : Type 1} → statement M
+unfolding pool_of
+pool_of_spec = tie.close (tie.spec
     invariant-loop decreases-loop
     (λ c. (omega arith, add_begin _ _, add_begin _ _))
     (λ c. search needs) (λ c. search needs) (λ c κs. search needs)
@@ -26,8 +26,8 @@ pool-of-spec = tie.close (tie.spec
     (λ c.
     let l = c.before.before.before.loop in (
       omega arith,
-      add-more _ _ _ _ _ l.invariant.1 c.before.wide.ensures.0 c.before.wide.ensures.1,
-      add-more _ _ _ _ _ l.invariant.2 c.wide2.ensures.0 c.wide2.ensures.1,
+      add_more _ _ _ _ _ l.invariant.1 c.before.wide.ensures.0 c.before.wide.ensures.1,
+      add_more _ _ _ _ _ l.invariant.2 c.wide2.ensures.0 c.wide2.ensures.1,
     ))
     (λ c.
     let l = c.before in

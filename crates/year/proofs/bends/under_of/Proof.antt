@@ -4,7 +4,7 @@ use Rattle.year.proofs.Sums.{under-le}
 use Rattle.year.proofs.bends.under_of.Statement.{statement}
 use Rattle.year.proofs.bends.under_of.Tie as tie
 
-pub under-of-spec : {M : Type 1} → statement M
-under-of-spec = tie.close (tie.spec
+pub under_of_spec : {M : Type 1} → statement M
+under_of_spec = tie.close (tie.spec
     (λ c. record { fits = omega (arith, under-le c.before.requires) })
     (λ c. search needs))

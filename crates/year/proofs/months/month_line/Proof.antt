@@ -1,13 +1,13 @@
 -- `year::months::month_line` meets its contract: the counts of the month.
 use Rattle.wire.proofs.Usual.{ap, ap₂, ◌∙◌, needs}
-use Rattle.year.specs.Year.{monthLine}
+use Rattle.year.specs.Year.{month_line}
 use Rattle.year.specs.Months.{found, dismissed, line_of}
 use Rattle.year.proofs.months.month_line.Statement.{statement}
 use Rattle.year.proofs.months.month_line.Tie as tie
 
-pub month-line-spec : {M : Type 1} → statement M
-unfolding monthLine
-month-line-spec = tie.close (tie.spec
+pub month_line_spec : {M : Type 1} → statement M
+unfolding month_line
+month_line_spec = tie.close (tie.spec
     (λ c. search needs) (λ c κs. search needs)
     (λ c κs. rw c.body_of.ensures (c.before.before.requires.0.month _ c.before.before.requires.1))
     (λ c κs. search needs)

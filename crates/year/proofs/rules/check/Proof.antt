@@ -3,13 +3,13 @@ use Rattle.wire.proofs.Usual.{needs}
 use borrow.Author.Tests.{le-leb, lt-leb}
 use Rattle.wire.specs.Tables.{first}
 use Rattle.wire.proofs.Places.{ok, bad}
-use Rattle.year.specs.Ledger.{ledgerTable, ledgerNumber}
+use Rattle.year.specs.Ledger.{ledger_table, ledger_number}
 use Rattle.year.proofs.rules.check.Statement.{statement}
 use Rattle.year.proofs.rules.check.Tie as tie
 
-pub check-spec : {M : Type 1} → statement M
-unfolding ledgerNumber ledgerTable first
-check-spec = tie.close (tie.spec
+pub check_spec : {M : Type 1} → statement M
+unfolding ledger_number ledger_table first
+check_spec = tie.close (tie.spec
     (λ c. rw (lt-leb _ _ c.if1.true))
     (λ c κs. search needs)
     (λ c.
