@@ -1,5 +1,7 @@
 // A table of contents at the front of a file: for each of n bodies its start and its length (01, "The case file", where
 // n is 5). Every public function is total: a byte past the end reads as 0.
+#![tactic(auto)]
+
 ghost use Rattle.std.specs.Prelude.{◌≡◌, ◌+◌, ◌-◌, ◌<◌, ◌≤◌, length};
 ghost use Rattle.wire.specs.Words.{le32};
 ghost use Rattle.wire.specs.Places.{first_bad};

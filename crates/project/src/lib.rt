@@ -1,6 +1,7 @@
 // A project is its four bodies G, I, B and O, each a slice (01, "The case file"). Here are the records in them, the
 // records' fields, and how many there are; where a parameter byte stands is said in `kind`. Every function is total: a
 // byte past the end reads as 0, and a record past the end is empty.
+#![tactic(auto)]
 ghost use Rattle.std.specs.Prelude.{◌≡◌};
 ghost use Rattle.project.specs.Project.{row_of, device, group_count, run_linked, input_size, input_group_in};
 ghost use Rattle.project.specs.Project.{input_type_in};
