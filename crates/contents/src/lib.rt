@@ -10,12 +10,14 @@ ghost use Rattle.contents.specs.Contents.{body_start, body_size, follows_ok, con
 const ENTRY_SIZE: usize = 8;
 
 // Where body e starts, and how long it is, as its entry says.
+#[tactic(auto, unfolding(crate::specs::Contents::body_start))]
 pub fn start(file: &[u8], e: u8) -> u32
     ensures { result ≡ body_start file.now e }
 {
     wire::read32(file, ENTRY_SIZE * (e as usize))
 }
 
+#[tactic(auto, unfolding(crate::specs::Contents::body_size))]
 pub fn size(file: &[u8], e: u8) -> u32
     ensures { result ≡ body_size file.now e }
 {
@@ -31,6 +33,7 @@ fn word(file: &[u8], i: usize) -> u32
 }
 
 // Body e + 1 starts where body e ends. Where the file has both entries, one look at its size is enough.
+#[tactic(auto, unfolding(crate::specs::Contents::follows_ok, crate::specs::Contents::body_start, crate::specs::Contents::body_size))]
 fn follows(file: &[u8], e: u8) -> bool
     requires { e < 255 }
     ensures { result ≡ follows_ok file.now e }
@@ -65,6 +68,7 @@ fn last_of(n: u8) -> u8
 }
 
 // Whether the n bodies stand one after the other, from the table to the end of the file.
+#[tactic(auto, unfolding(crate::specs::Contents::contents_ok, wire::specs::Places::all))]
 pub fn ok(file: &[u8], n: u8) -> bool
     ensures { result ≡ contents_ok n file.now }
 {
