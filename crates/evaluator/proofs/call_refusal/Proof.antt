@@ -5,13 +5,13 @@ use Rattle.wire.proofs.Places.{ok, bad}
 use Rattle.project.specs.Project.{Project}
 use Rattle.casefile.specs.Bodies.{project_of}
 use Rattle.casefile.specs.Refusal.{file_table, number_of}
-use Rattle.casefile.proofs.Refusals.{number_is, number-zero}
+use Rattle.casefile.proofs.Refusals.{number_is, number_zero}
 use Rattle.casefile.proofs.Accepted.{accepted}
-use Rattle.casefile.proofs.Handed.{bodies, bodies-are}
+use Rattle.casefile.proofs.Handed.{bodies, bodies_are}
 use Rattle.evaluator.specs.State.{formed_with, state_formed}
 use Rattle.evaluator.specs.Answer.{refusal, Lent, lends, sizes_ok, call_rows}
-use Rattle.evaluator.proofs.Checking.{Taken, taken, groups-counted, few, whole, listed, sizes-fit}
-use Rattle.evaluator.proofs.Calls.{refused-file, refused-rows, rows-10, rows-11, rows-12, rows_none}
+use Rattle.evaluator.proofs.Checking.{Taken, taken, groups_counted, few, whole, listed, sizes_fit}
+use Rattle.evaluator.proofs.Calls.{refused_file, refused_rows, rows_10, rows_11, rows_12, rows_none}
 use Rattle.evaluator.proofs.call_refusal.Statement.{statement}
 use Rattle.evaluator.proofs.call_refusal.Tie as tie
 
@@ -46,20 +46,20 @@ is_project c =
     let o = c.before in
     let b = o.before in
     let n = b.before in
-    bodies-are _ (start_of (else_of c).before).requires n.before.body.ensures n.body2.ensures b.body3.ensures
+    bodies_are _ (start_of (else_of c).before).requires n.before.body.ensures n.body2.ensures b.body3.ensures
     o.body4.ensures
 
 tested : (c : tie.After-counts-of) → Taken (project_is c)
 tested c =
     let F = now (start_of (else_of c).before).args.file in
-    subst Taken (sym (is_project c)) (taken F (accepted F (number-zero F (zero_number (else_of c)))))
+    subst Taken (sym (is_project c)) (taken F (accepted F (number_zero F (zero_number (else_of c)))))
 
 -- what each check says of it
 sizes_told : (c : tie.After-sizes-ok) →
     let k = c.before in c.sizes-ok.result ≡ sizes_ok (project_is k) (lent_of (else_of k).before)
 sizes_told c =
     let k = c.before in
-    c.sizes-ok.ensures ∙ sizes-fit k.Counts-of.ensures (tested k) (lent_of (else_of k).before)
+    c.sizes-ok.ensures ∙ sizes_fit k.Counts-of.ensures (tested k) (lent_of (else_of k).before)
 
 state_told : (c : tie.After-state-ok) →
     let k = c.before.before.before in
@@ -70,7 +70,7 @@ state_told c =
     let k = c.before.before.before in
     let S = now (start_of (else_of k).before).args.state in
     c.state-ok.ensures
-    ∙ (λ i. formed_with (groups-counted k.Counts-of.ensures (tested k) i) (project_is k).blocks S)
+    ∙ (λ i. formed_with (groups_counted k.Counts-of.ensures (tested k) i) (project_is k).blocks S)
 
 sized : (c : tie.Else2) →
     let k = c.before.before in sizes_ok (project_is k) (lent_of (else_of k).before) ≡ true
@@ -90,31 +90,31 @@ rows : (c : tie.After-counts-of) →
 rows c =
     let d = else_of c in
     let a = (start_of d.before).args in
-    refused-rows (now a.file) (now a.rec) (lent_of d.before) (zero_number d) (project_is c) (is_project c)
+    refused_rows (now a.file) (now a.rec) (lent_of d.before) (zero_number d) (project_is c) (is_project c)
 
 returns : tie.Need-returns
 returns c =
     let k = c.before in
     let a = (start_of k).args in
-    refused-file (now a.file) (now a.rec) (lent_of k) _ (number k) c.if1.true
+    refused_file (now a.file) (now a.rec) (lent_of k) _ (number k) c.if1.true
 
 returns_2 : tie.Need-returns-2
 returns_2 c =
     let k = c.before.before in
-    sym (rows-10 (project_is k) _ _ (bad (sizes_told c.before) c.if2.true)) ∙ rows k
+    sym (rows_10 (project_is k) _ _ (bad (sizes_told c.before) c.if2.true)) ∙ rows k
 
 returns_3 : tie.Need-returns-3
 returns_3 c =
     let d = c.before.before in
     let k = d.before.before in
-    sym (rows-11 (project_is k) _ _ (sized d) (bad (state_told c.before) c.if3.true)) ∙ rows k
+    sym (rows_11 (project_is k) _ _ (sized d) (bad (state_told c.before) c.if3.true)) ∙ rows k
 
 returns_4 : tie.Need-returns-4
 returns_4 c =
     let f = c.before.before in
     let d = f.before.before in
     let k = d.before.before in
-    sym (rows-12 (project_is k) _ _ (sized d) (formed f) (bad c.before.record-ok.ensures c.if4.true))
+    sym (rows_12 (project_is k) _ _ (sized d) (formed f) (bad c.before.record-ok.ensures c.if4.true))
     ∙ rows k
 
 returns_5 : tie.Need-returns-5

@@ -3,9 +3,9 @@
 use Rattle.wire.proofs.Usual.{◌≡◌, sym, ◌∙◌, subst, needs, now}
 use Rattle.project.specs.Project.{Project}
 use Rattle.casefile.specs.Bodies.{project_of}
-use Rattle.casefile.proofs.Handed.{bodies, bodies-are}
+use Rattle.casefile.proofs.Handed.{bodies, bodies_are}
 use Rattle.evaluator.specs.Answer.{Lent, Left, lends, refusal}
-use Rattle.evaluator.proofs.Calls.{call-refused, call-made, Passed, admitted, call-passed, call-taken}
+use Rattle.evaluator.proofs.Calls.{call_refused, call_made, Passed, admitted, call_passed, call_taken}
 use Rattle.evaluator.proofs.Checking.{Taken}
 use Rattle.evaluator.proofs.cycle.Statement.{statement}
 use Rattle.evaluator.proofs.cycle.Tie as tie
@@ -39,7 +39,7 @@ returns c =
     let a = (start_of k).args in
     let d =
     all-four
-    (call-refused (now a.file) (now a.rec) (lent_of k) k.call-refusal.result (sym k.call-refusal.ensures)
+    (call_refused (now a.file) (now a.rec) (lent_of k) k.call-refusal.result (sym k.call-refusal.ensures)
     n.if1.true)
     in
     let r = t.Turned-down.ensures in (
@@ -76,7 +76,7 @@ is_project c =
     let b = o.before in
     let n = b.before in
     let t = (else_of c).before.before.before.before.before in
-    bodies-are _ t.starts-of.ensures.0 n.before.body.ensures n.body2.ensures b.body3.ensures
+    bodies_are _ t.starts-of.ensures.0 n.before.body.ensures n.body2.ensures b.body3.ensures
     o.body4.ensures
 
 whole_cycle_requires : tie.Need-whole-cycle-requires
@@ -89,8 +89,8 @@ whole_cycle_requires c κs =
     let L = lent_of d.before in
     let z = no_number d in
     let p = sym (is_project k) in
-    admitted (project_is k) R L k.Counts-of.result k.Counts-of.ensures (subst Taken p (call-taken F R L z))
-    (subst (λ (q : Project). Passed q R L) p (call-passed F R L z))
+    admitted (project_is k) R L k.Counts-of.result k.Counts-of.ensures (subst Taken p (call_taken F R L z))
+    (subst (λ (q : Project). Passed q R L) p (call_passed F R L z))
 
 returns_2 : tie.Need-returns-2
 returns_2 c =
@@ -100,7 +100,7 @@ returns_2 c =
     let a = (start_of d.before).args in
     let r = w.whole-cycle.ensures in
     all-four
-    (call-made (now a.file) (now a.rec) (lent_of d.before) (project_is k) _ _ _ _ (no_number d) (is_project k)
+    (call_made (now a.file) (now a.rec) (lent_of d.before) (project_is k) _ _ _ _ (no_number d) (is_project k)
     r.1.1.1 r.0 r.1.0 r.1.1.0)
 
 pub cycle_spec : {M : Type 1} → statement M

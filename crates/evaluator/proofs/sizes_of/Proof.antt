@@ -4,12 +4,12 @@ use Rattle.wire.proofs.Usual.{◌≡◌, sym, ap, ◌∙◌, arith, needs, ne_eq
 use Rattle.wire.specs.Tables.{first}
 use Rattle.casefile.specs.Bodies.{project_of}
 use Rattle.casefile.specs.Refusal.{file_table, number_of}
-use Rattle.casefile.proofs.Refusals.{number_is, number-zero}
+use Rattle.casefile.proofs.Refusals.{number_is, number_zero}
 use Rattle.casefile.proofs.Accepted.{accepted}
 use Rattle.evaluator.specs.Fresh.{sizes_of}
 use Rattle.evaluator.specs.Asks.{Few}
 use Rattle.evaluator.specs.declared.Sizes.TheVariants.{Bytes}
-use Rattle.evaluator.proofs.Checking.{Taken, taken, few, state-counted, rows-counted, notes-counted}
+use Rattle.evaluator.proofs.Checking.{Taken, taken, few, state_counted, rows_counted, notes_counted}
 use Rattle.evaluator.proofs.sizes_of.Statement.{statement}
 use Rattle.evaluator.proofs.sizes_of.Tie as tie
 
@@ -25,7 +25,7 @@ number c =
 passed : (c : tie.Else1) → Taken (project_of (now (start_of c.before).args.file))
 passed c =
     let F = now (start_of c.before).args.file in
-    taken F (accepted F (number-zero F (sym (number c.before) ∙ c.if1.false)))
+    taken F (accepted F (number_zero F (sym (number c.before) ∙ c.if1.false)))
 
 small : (c : tie.After-counts-in) → Few c.counts-in.result
 small c = few c.counts-in.ensures (passed c.before)
@@ -40,7 +40,7 @@ returns_2 c =
     let e = c.counts-in.ensures in
     let t = passed c.before in
     rw (sym (number c.before.before) ∙ c.before.if1.false)
-    (λ i. Bytes (state-counted e t i) (rows-counted e t i) (notes-counted e t i))
+    (λ i. Bytes (state_counted e t i) (rows_counted e t i) (notes_counted e t i))
 
 pub sizes_of_spec : {M : Type 1} → statement M
 sizes_of_spec = tie.close (tie.spec

@@ -4,8 +4,8 @@ use Rattle.wire.proofs.Usual.{◌≡◌, sym, ap, ◌∙◌, ◌<◌, arith, nee
 use Rattle.evaluator.specs.declared.Answer.TheVariants.{Findings, Refused}
 use Rattle.evaluator.specs.Answer.{Left}
 use Rattle.hagglethwait.specs.Calls.{call_of, answer_number}
-use Rattle.evaluator.proofs.Few.{few-found}
-use Rattle.hagglethwait.proofs.Signs.{count_fits, count_is, minus-fits, minus_is}
+use Rattle.evaluator.proofs.Few.{few_found}
+use Rattle.hagglethwait.proofs.Signs.{count_fits, count_is, minus_fits, minus_is}
 use Rattle.hagglethwait.proofs.hagglethwait_cycle.Statement.{statement}
 use Rattle.hagglethwait.proofs.hagglethwait_cycle.Tie as tie
 
@@ -24,7 +24,7 @@ module _ (c : tie.After-known-told) where
   counted = sym c.before.answer.given.1 ∙ called.cycle.ensures.0
 
   small : c.before.answer.given.0.0 < 2147483648
-  small = omega (arith, few-found _ _ _ _ counted)
+  small = omega (arith, few_found _ _ _ _ counted)
 
 module _ (c : tie.After-known-told2) where
   abbrev called2 : tie.After-cycle
@@ -47,7 +47,7 @@ hagglethwait_cycle_spec = tie.close (tie.spec
     (λ c κs. search needs) (λ c. search needs)
     (λ c. count_fits _ (small c))
     (λ c. search needs) (λ c. search needs)
-    (λ c. minus-fits _ (byte c))
+    (λ c. minus_fits _ (byte c))
     (λ c. search needs) (λ c. search needs) (λ c. search needs)
     returns
     (λ c. search needs) (λ c. search needs) (λ c. search needs)

@@ -4,11 +4,11 @@ use Rattle.wire.proofs.Usual.{◌≡◌, refl, sym, ap, ◌∙◌, List, ℕ, �
 use Rattle.wire.proofs.Usual.{replicate, length-replicate, now}
 use Rattle.casefile.specs.Bodies.{project_of, record_of}
 use Rattle.evaluator.specs.State.{state_length, findings_length}
-use Rattle.evaluator.proofs.FreshFormed.{fresh-length}
-use Rattle.tracer.proofs.Starting.{standing-of, grouped-of, listed_of, begun-of, size-some, count_is}
+use Rattle.evaluator.proofs.FreshFormed.{fresh_length}
+use Rattle.tracer.proofs.Starting.{standing_of, grouped_of, listed_of, begun_of, size_some, count_is}
 use Rattle.tracer.proofs.Starting.{record_is, few_records}
 use Rattle.tracer.proofs.Turning.{Here, formed_here, begins, ran, call, Turned, turned, tells}
-use Rattle.tracer.proofs.Turning.{finds-few, finds-none, goes_on, stops}
+use Rattle.tracer.proofs.Turning.{finds_few, finds_none, goes_on, stops}
 use Rattle.tracer.proofs.run.Statement.{statement}
 use Rattle.tracer.proofs.run.Tie as tie
 
@@ -34,7 +34,7 @@ state_fits : (c : tie.At-loop invariant-loop decreases-loop) →
     length c.loop.state ≡ state_length P.groups P.blocks
 state_fits c =
     let s = start_of c in
-    c.loop.invariant.2 ∙ ap length s.pre.1.0 ∙ fresh-length (project_of (now s.args.file))
+    c.loop.invariant.2 ∙ ap length s.pre.1.0 ∙ fresh_length (project_of (now s.args.file))
 
 loop_holds : tie.Need-loop-init invariant-loop decreases-loop
 loop_holds c =
@@ -47,7 +47,7 @@ errors_requires : tie.Need-groups-in-error-requires invariant-loop decreases-loo
 errors_requires c κs =
     let l = c.before.before.before in
     let s = (start_of l).requires.0 in
-    (standing-of s l.loop.state (state_fits l), grouped-of s)
+    (standing_of s l.loop.state (state_fits l), grouped_of s)
 
 -- what the step has to be given
 step_requires : tie.Need-step-requires invariant-loop decreases-loop
@@ -56,7 +56,7 @@ step_requires c κs =
     let l = g.before.before.before.before in
     let s = (start_of l).requires.0 in (
       listed_of s,
-      begun-of s _ l.loop.state l.loop.findings g.groups-in-error.ensures (state_fits l)
+      begun_of s _ l.loop.state l.loop.findings g.groups-in-error.ensures (state_fits l)
           (formed_here l.loop.invariant.5) (l.loop.invariant.3 ∙ s.clean),
     )
 
@@ -118,8 +118,8 @@ print_requires c κs =
     let e = t.answer.given.1 in (
       tells h (testing v) e (done_by v) (start_of l).pre.0.blocks refl,
       (
-        (finds-few h (testing v) e (done_by v), l.loop.inv.4 ∙ (start_of l).pre.1.1),
-        finds-none h (testing v) e (done_by v),
+        (finds_few h (testing v) e (done_by v), l.loop.inv.4 ∙ (start_of l).pre.1.1),
+        finds_none h (testing v) e (done_by v),
       ),
     )
 
@@ -144,7 +144,7 @@ loop_again c =
     let i = l.loop.inv in
     let e = p.before.before.before.before.answer.given.1 in (
       omega (arith, testing v),
-      omega (arith, i.1, finds-few i.5 (testing v) e (done_by v)),
+      omega (arith, i.1, finds_few i.5 (testing v) e (done_by v)),
       state_long v ∙ i.2,
       cleared (now a.findings) _ (findings_length (project_of (now a.file)).blocks)
           (length v.step.last.1.1.1.1.1.1.1.1.0) (start_of l).pre.0.clean
@@ -168,7 +168,7 @@ returns_2 c =
 pub run_spec : {M : Type 1} → statement M
 run_spec = tie.close (tie.spec
     invariant-loop decreases-loop
-    (λ c κs. size-some c.before.before.before.before.before.before.before.before.before.requires.0)
+    (λ c κs. size_some c.before.before.before.before.before.before.before.before.before.requires.0)
     loop_holds
     (λ c κs. search needs)
     errors_requires
@@ -192,7 +192,7 @@ run_spec = tie.close (tie.spec
       i.1,
       testing v,
       few (loop_of v),
-      finds-few i.5 (testing v) c.before.answer.given.1 (done_by v),
+      finds_few i.5 (testing v) c.before.answer.given.1 (done_by v),
     ))
     (λ c.
     let v = c.before.before.before.before.before.before.before in

@@ -4,11 +4,11 @@ use Rattle.wire.proofs.Usual.{replicate, length-take-le, length-replicate, now}
 use lib.ListN.{replicate-append-replicate}
 use lib.Seq.{take_at}
 use Rattle.project.specs.Project.{counts_in}
-use Rattle.casefile.proofs.Handed.{bodies-are}
+use Rattle.casefile.proofs.Handed.{bodies_are}
 use Rattle.block.specs.State.{state_size}
 use Rattle.block.specs.Finding.{finding_size}
 use Rattle.evaluator.specs.State.{state_head}
-use Rattle.evaluator.proofs.Checking.{few, state-counted, notes-counted}
+use Rattle.evaluator.proofs.Checking.{few, state_counted, notes_counted}
 use Rattle.tracer.proofs.Starting.{taken_of}
 use Rattle.tracer.proofs.trace.Statement.{statement}
 use Rattle.tracer.proofs.trace.Tie as tie
@@ -33,7 +33,7 @@ trace_cycles_requires c κs =
     let s = g.before in
     let F = now s.before.before.args.file in
     let bodies =
-    bodies-are F s.starts-of.ensures.0 g.body.ensures n.body2.ensures m.body3.ensures
+    bodies_are F s.starts-of.ensures.0 g.body.ensures n.body2.ensures m.body3.ensures
     o.body4.ensures in
     let e = k.Counts-of.ensures ∙ ap counts_in bodies in (
       record {
@@ -42,12 +42,12 @@ trace_cycles_requires c κs =
             let t = taken_of F z in
             length-take-le _ _ (omega (arith, h.0, l.0))
             ∙ ap₂ (λ (g n : ℕ). state_head g + state_size * n) (h.1 (few e t).0) (l.1 (few e t).1.0)
-            ∙ state-counted e t;
+            ∙ state_counted e t;
         clean = λ z.
             let t = taken_of F z in
             zeros_front (finding_size * b.least.result) 1024 (omega (arith, l.0))
             ∙ ap (λ (n : ℕ). replicate n 0)
-            (ap (λ (n : ℕ). finding_size * n) (l.1 (few e t).1.0) ∙ notes-counted e t);
+            (ap (λ (n : ℕ). finding_size * n) (l.1 (few e t).1.0) ∙ notes_counted e t);
       },
       search needs,
     )

@@ -5,7 +5,7 @@ use Rattle.wire.proofs.Usual.{◌≡◌, sym, ◌∙◌, needs, now}
 use Rattle.casefile.specs.Bodies.{body_g, body_i, body_b, body_t, project_of}
 use Rattle.casefile.proofs.Handed.{body_is}
 use Rattle.evaluator.specs.Fresh.{fresh_number}
-use Rattle.tracer.proofs.Starting.{is-accepted, is-fresh, is-refused, is-run, ordered_of}
+use Rattle.tracer.proofs.Starting.{is_accepted, is_fresh, is_refused, is-run, ordered_of}
 use Rattle.tracer.proofs.trace_cycles.Statement.{statement}
 use Rattle.tracer.proofs.trace_cycles.Tie as tie
 
@@ -20,7 +20,7 @@ returns : tie.Need-returns
 returns c =
     let f = c.before.before.before in
     let s = f.before.before.before.before.before.before in
-    is-refused (now s.args.file) (now s.args.state) _ s.requires.0.size f.fresh.ensures.0 c.if1.true
+    is_refused (now s.args.file) (now s.args.state) _ s.requires.0.size f.fresh.ensures.0 c.if1.true
 
 order_requires : tie.Need-block-order-requires
 unfolding project_of
@@ -30,7 +30,7 @@ order_requires c κs =
     let e = t.before in
     let s = start_of e in
     let F = now s.args.file in
-    ordered_of F s.args.c _ (is-accepted F (now s.args.state) (zero_number e)) s.pre.0.counts
+    ordered_of F s.args.c _ (is_accepted F (now s.args.state) (zero_number e)) s.pre.0.counts
     (body_is F t.starts-of.ensures.0 body_b b.body3.ensures)
 
 run_requires : tie.Need-run-requires
@@ -47,7 +47,7 @@ run_requires c κs =
     let F = now s.args.file in
     let S = now s.args.state in
     let are = o.starts-of.ensures.0 in
-    let yes = is-accepted F S (zero_number e) in (
+    let yes = is_accepted F S (zero_number e) in (
       record {
         accepted = yes;
         counts = s.pre.0.counts;
@@ -58,7 +58,7 @@ run_requires c κs =
         order = k.block-order.ensures;
         clean = s.pre.0.clean yes;
       },
-      (e.before.before.before.fresh.ensures.1 ∙ is-fresh F S (zero_number e), s.pre.1),
+      (e.before.before.before.fresh.ensures.1 ∙ is_fresh F S (zero_number e), s.pre.1),
     )
 
 -- the call of `run`, and the place before the starts are taken

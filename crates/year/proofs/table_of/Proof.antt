@@ -2,7 +2,7 @@
 use Rattle.wire.proofs.Usual.{ap, ◌∙◌, needs}
 use Rattle.year.specs.Bends.{bend_of}
 use Rattle.year.specs.Year.{table_of}
-use Rattle.year.proofs.Taken.{lines-counted}
+use Rattle.year.proofs.Taken.{lines_counted}
 use Rattle.year.proofs.table_of.Statement.{statement}
 use Rattle.year.proofs.table_of.Tie as tie
 
@@ -10,7 +10,7 @@ pub table_of_spec : {M : Type 1} → statement M
 unfolding table_of
 table_of_spec = tie.close (tie.spec
     (λ c κs. search needs)
-    (λ c κs. rw c.lines_of.ensures (lines-counted _ _ c.before.before.requires))
+    (λ c κs. rw c.lines_of.ensures (lines_counted _ _ c.before.before.requires))
     (λ c.
     let lines = c.before.lines_of.ensures in
     λ i. record { lines = lines i; bend = (c.bend-of.ensures ∙ ap bend_of lines) i }))

@@ -2,7 +2,7 @@
 use Rattle.wire.proofs.Usual.{sym, ◌∙◌, needs}
 use Rattle.wire.proofs.Places.{is, is_not}
 use Rattle.year.specs.Year.{year_of}
-use Rattle.year.proofs.Taken.{taken-small}
+use Rattle.year.proofs.Taken.{taken_small}
 use Rattle.year.proofs.year_of.Statement.{statement}
 use Rattle.year.proofs.year_of.Tie as tie
 
@@ -14,8 +14,8 @@ year_of_spec = tie.close (tie.spec
     let k = c.before.before.check.ensures in
     rw (is_not k c.before.if1.true)
     (λ i. record { number = k i; every = c.no_table.ensures i; person = c.no_table.ensures i }))
-    (λ c κs. taken-small _ (sym c.before.check.ensures ∙ c.if1.false))
-    (λ c κs. taken-small _ (sym c.before.before.check.ensures ∙ c.before.if1.false))
+    (λ c κs. taken_small _ (sym c.before.check.ensures ∙ c.if1.false))
+    (λ c κs. taken_small _ (sym c.before.before.check.ensures ∙ c.before.if1.false))
     (λ c.
     let t = c.before in
     let k = t.before.before.check.ensures in

@@ -1,8 +1,8 @@
 -- `evaluator::advance::advance` meets its contract: the parts' contracts come to the definitions of a cycle
 -- (`Checked`).
 use Rattle.wire.proofs.Usual.{needs, not-true}
-use Rattle.evaluator.proofs.Checked.{packable, all-count, all-findings, few-heads, heads-fit, no-count}
-use Rattle.evaluator.proofs.Checked.{no-findings, ran-state, running}
+use Rattle.evaluator.proofs.Checked.{packable, all_count, all_findings, few_heads, heads_fit, no_count}
+use Rattle.evaluator.proofs.Checked.{no_findings, ran_state, running}
 use Rattle.evaluator.proofs.advance.advance.Statement.{statement}
 use Rattle.evaluator.proofs.advance.advance.Tie as tie
 
@@ -27,10 +27,10 @@ returns c =
     let s = start_of d in
     let a = s.args in
     let none = r.take-turns.ensures.1.1 (not-true r.take-turns.result c.if1.true) in (
-      ran-state s.pre _ _ d.decide.ensures.0 d.decide.ensures.1 _ r.take-turns.ensures.0,
+      ran_state s.pre _ _ d.decide.ensures.0 d.decide.ensures.1 _ r.take-turns.ensures.0,
       (
-        no-findings s.pre _ _ d.decide.ensures.0 d.decide.ensures.1 _ r.take-turns.ensures.1.0 none,
-        no-count s.pre _ _ d.decide.ensures.0 d.decide.ensures.1 _ r.take-turns.ensures.1.0 none,
+        no_findings s.pre _ _ d.decide.ensures.0 d.decide.ensures.1 _ r.take-turns.ensures.1.0 none,
+        no_count s.pre _ _ d.decide.ensures.0 d.decide.ensures.1 _ r.take-turns.ensures.1.0 none,
       ),
     )
 
@@ -50,11 +50,11 @@ returns_2 c =
     let d = decided_of r in
     let s = start_of d in
     let a = s.args in (
-      ran-state s.pre _ _ d.decide.ensures.0 d.decide.ensures.1 _ r.take-turns.ensures.0,
+      ran_state s.pre _ _ d.decide.ensures.0 d.decide.ensures.1 _ r.take-turns.ensures.0,
       (
-        all-findings s.pre _ _ d.decide.ensures.0 d.decide.ensures.1 _ r.take-turns.ensures.1.0 _
+        all_findings s.pre _ _ d.decide.ensures.0 d.decide.ensures.1 _ r.take-turns.ensures.1.0 _
             p.pack.ensures.0,
-        all-count s.pre _ _ d.decide.ensures.0 d.decide.ensures.1 _ r.take-turns.ensures.1.0 _
+        all_count s.pre _ _ d.decide.ensures.0 d.decide.ensures.1 _ r.take-turns.ensures.1.0 _
             p.pack.ensures.1,
       ),
     )
@@ -64,8 +64,8 @@ advance_spec = tie.close (tie.spec
     (λ c κs.
     let s = c.before.before.before.before.before.before.before.before in
     let a = s.args in (
-      few-heads s.requires,
-      heads-fit s.requires,
+      few_heads s.requires,
+      heads_fit s.requires,
     ))
     (λ c. search needs)
     take_turns_requires

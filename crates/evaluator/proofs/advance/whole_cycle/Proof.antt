@@ -1,8 +1,8 @@
 -- `evaluator::advance::whole_cycle` meets its contract: the state and the findings are `advance`'s, and the outputs
 -- show the new state (`Checked`).
 use Rattle.wire.proofs.Usual.{ap, ◌∙◌, needs, length, now}
-use Rattle.evaluator.proofs.Checked.{ready, in-groups, in_order, in_place, new-long, outputs-fit, outputs-long}
-use Rattle.evaluator.proofs.Checked.{shown-new}
+use Rattle.evaluator.proofs.Checked.{ready, in_groups, in_order, in_place, new_long, outputs_fit, outputs_long}
+use Rattle.evaluator.proofs.Checked.{shown_new}
 use Rattle.evaluator.proofs.advance.whole_cycle.Statement.{statement}
 use Rattle.evaluator.proofs.advance.whole_cycle.Tie as tie
 
@@ -25,7 +25,7 @@ returns c =
     let s = start_of k in
     let a = s.args in
     let e = v.advance.ensures in
-    (e.0, (shown-new s.pre _ _ e.0 w.write-outputs.ensures, (e.1.0, e.1.1)))
+    (e.0, (shown_new s.pre _ _ e.0 w.write-outputs.ensures, (e.1.0, e.1.1)))
 
 pub whole_cycle_spec : {M : Type 1} → statement M
 whole_cycle_spec = tie.close (tie.spec
@@ -38,7 +38,7 @@ whole_cycle_spec = tie.close (tie.spec
     let s = start_of c.before in
     let a = s.args in (
       in_place s.pre (now a.state) s.pre.state,
-      in-groups s.pre,
+      in_groups s.pre,
     ))
     (λ c. search needs) (λ c. search needs)
     advance_requires
@@ -49,10 +49,10 @@ whole_cycle_spec = tie.close (tie.spec
     let a = s.args in (
       in_place s.pre _
           (ap length v.advance.ensures.0
-          ∙ new-long (now a.groups) (now a.blocks) (now a.rec) (now a.state) s.pre.sound),
+          ∙ new_long (now a.groups) (now a.blocks) (now a.rec) (now a.state) s.pre.sound),
       (
-        outputs-fit s.pre,
-        outputs-long s.pre,
+        outputs_fit s.pre,
+        outputs_long s.pre,
       ),
     ))
     (λ c. search needs) (λ c. search needs) (λ c. search needs)

@@ -4,8 +4,8 @@ use Rattle.wire.proofs.Usual.{◌≡◌, ap₂, ◌∙◌, subst, ◌-◌, ◌<�
 use Rattle.project.specs.Project.{device}
 use Rattle.evaluator.specs.Groups.{runs_with, phase_from, phase_of}
 use Rattle.evaluator.specs.Asks.{group_with}
-use Rattle.evaluator.proofs.Deciding.{Deciding, deciding-start, new_is, deciding-turn, deciding-state}
-use Rattle.evaluator.proofs.Deciding.{deciding-phases}
+use Rattle.evaluator.proofs.Deciding.{Deciding, deciding_start, new_is, deciding_turn, deciding_state}
+use Rattle.evaluator.proofs.Deciding.{deciding_phases}
 use Rattle.evaluator.proofs.groups.decide.Statement.{statement}
 use Rattle.evaluator.proofs.groups.decide.Tie as tie
 
@@ -63,7 +63,7 @@ loop_again c =
     let l = y.before.before in
     let s = start_of l in
     let a = s.args in
-    deciding-turn (now a.errors) (now a.groups) (now a.rec) (now a.state) a.h l.loop.state
+    deciding_turn (now a.errors) (now a.groups) (now a.rec) (now a.state) a.h l.loop.state
     l.loop.phases l.loop.g l.loop.invariant y.before.loop-test.true s.pre.0 s.pre.1 _ _ (new_byte g)
     (new_phase c)
 
@@ -97,7 +97,7 @@ pub decide_spec : {M : Type 1} → statement M
 decide_spec = tie.close (tie.spec
     invariant-loop decreases-loop
     (λ c κs. search needs)
-    (λ c. deciding-start _ _ _ _ _)
+    (λ c. deciding_start _ _ _ _ _)
     (λ c. let s = start_of c.before in omega (arith, c.loop-test.true, s.pre.0))
     (λ c κs. search needs) (λ c κs. search needs) (λ c κs. search needs) (λ c κs. search needs)
     (λ c.
@@ -118,7 +118,7 @@ decide_spec = tie.close (tie.spec
     let l = c.before in
     let s = start_of l in
     let a = s.args in (
-      deciding-state (now a.errors) (now a.groups) (now a.rec) (now a.state) a.h _ _ s.pre.1
+      deciding_state (now a.errors) (now a.groups) (now a.rec) (now a.state) a.h _ _ s.pre.1
           (ended c),
-      deciding-phases (now a.errors) (now a.groups) (now a.rec) (now a.state) a.h _ _ (ended c),
+      deciding_phases (now a.errors) (now a.groups) (now a.rec) (now a.state) a.h _ _ (ended c),
     )))

@@ -5,8 +5,8 @@ use mathlib.Core.Logic.{⊎_elim}
 use Rattle.project.specs.Project.{group_in, group_of, block_count}
 use Rattle.block.specs.State.{is_error}
 use Rattle.evaluator.specs.State.{cell}
-use Rattle.evaluator.proofs.Reading.{cell-is, record_is, record-there, cell-there}
-use Rattle.evaluator.proofs.Deciding.{Marked, marked_start, marked-miss, marked-hit, marked-end}
+use Rattle.evaluator.proofs.Reading.{cell-is, record_is, record_there, cell_there}
+use Rattle.evaluator.proofs.Deciding.{Marked, marked_start, marked_miss, marked_hit, marked_end}
 use Rattle.evaluator.proofs.groups.error_groups.Statement.{statement}
 use Rattle.evaluator.proofs.groups.error_groups.Tie as tie
 
@@ -61,11 +61,11 @@ loop_again c =
           (λ w.
           let g = w.2.ensures ∙ ap group_in (w.1.ensures ∙ record_is (now a.blocks) l.loop.b) in
           subst kept (sym (w.3 ∙ ap (λ (j : ℕ). set l.loop.marks j 1) g))
-          (marked-hit a.h (now a.blocks) (now a.state) l.loop.marks l.loop.b l.loop.invariant.1
+          (marked_hit a.h (now a.blocks) (now a.state) l.loop.marks l.loop.b l.loop.invariant.1
           (sym (code_is k) ∙ w.0.taken) (s.pre.1.groups l.loop.b t.loop-test.true)))
           (λ w.
           subst kept (sym w.1)
-          (marked-miss a.h (now a.blocks) (now a.state) l.loop.marks l.loop.b l.loop.invariant.1
+          (marked_miss a.h (now a.blocks) (now a.state) l.loop.marks l.loop.b l.loop.invariant.1
           (sym (code_is k) ∙ w.0.left)))
           c.if1.branch,
     )
@@ -77,13 +77,13 @@ error_groups_spec = tie.close (tie.spec
     (λ c. omega (arith, small c))
     (λ c. omega (arith, small c))
     (λ c. omega (arith, small c))
-    (λ c κs. let s = start_of c.before in cell-there s.pre.0 _ (inside c))
+    (λ c κs. let s = start_of c.before in cell_there s.pre.0 _ (inside c))
     (λ c κs. search needs)
     (λ c. omega (arith, small c.before.before.before))
     (λ c κs.
     let t = c.before.before.before in
     let s = start_of t.before in
-    record-there s.pre.0 _ (inside t))
+    record_there s.pre.0 _ (inside t))
     (λ c κs. search needs) (λ c. search needs)
     (λ c.
     let t = c.before.before.before.before.before in
@@ -98,5 +98,5 @@ error_groups_spec = tie.close (tie.spec
     let end : l.loop.b ≡ block_count (now a.blocks) =
     omega (arith, l.loop.invariant.0, s.pre.1.count, c.loop-test.false)
     in
-    marked-end a.h (now a.blocks) (now a.state) l.loop.marks
+    marked_end a.h (now a.blocks) (now a.state) l.loop.marks
     (subst (Marked a.h (now a.blocks) (now a.state) l.loop.marks) end l.loop.invariant.1)))

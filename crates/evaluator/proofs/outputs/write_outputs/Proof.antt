@@ -1,7 +1,7 @@
 -- `evaluator::outputs::write_outputs` meets its contract: after the turn of output o the first o + 1 words are written.
 use Rattle.wire.proofs.Usual.{◌≡◌, refl, ap, ◌∙◌, List, ℕ, ◌-◌, ◌*◌, ◌≤◌, arith, needs, length, sets, now}
 use Rattle.wire.specs.Words.{bytes4}
-use Rattle.wire.proofs.Records.{gathered, gathered_none, gathered-length, gathered-more, gathered_all}
+use Rattle.wire.proofs.Records.{gathered, gathered_none, gathered_length, gathered_more, gathered_all}
 use Rattle.project.specs.Project.{output_block_in, output_port_in, row_of, output_record, output_block, word_size}
 use Rattle.evaluator.specs.State.{cell}
 use Rattle.evaluator.specs.Cycle.{port_shows}
@@ -30,7 +30,7 @@ long c =
     let s = start_of c in
     let a = s.args in
     ap length c.loop.invariant.1
-    ∙ gathered-length word_size (word a.h (now a.blocks) (now a.rows) (now a.state)) (now a.outputs)
+    ∙ gathered_length word_size (word a.h (now a.blocks) (now a.rows) (now a.state)) (now a.outputs)
     c.loop.o (λ j. refl) (omega (arith, s.pre.1.1, c.loop.invariant.0))
 
 -- the record of output o, and the block that it names
@@ -73,7 +73,7 @@ loop_again c =
       omega (arith, test),
       w.write32.ensures
           ∙ (λ i. sets (l.loop.invariant.1 i) (word_size * l.loop.o) (bytes4 (shown p i)))
-          ∙ gathered-more word_size f (now a.outputs) l.loop.o (λ j. refl) (omega (arith, s.pre.1.1, test)),
+          ∙ gathered_more word_size f (now a.outputs) l.loop.o (λ j. refl) (omega (arith, s.pre.1.1, test)),
     )
 
 pub write_outputs_spec : {M : Type 1} → statement M

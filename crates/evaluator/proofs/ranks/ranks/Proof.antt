@@ -2,7 +2,7 @@
 use Rattle.wire.proofs.Usual.{◌≡◌, refl, ap, ◌∙◌, subst, ◌-◌, ◌<◌, arith, needs, now}
 use Rattle.project.specs.Project.{order_in, order_of}
 use Rattle.evaluator.proofs.Reading.{record_is}
-use Rattle.evaluator.proofs.Ranking.{Ranking, ranking_start, ranking-turn, ranking-end}
+use Rattle.evaluator.proofs.Ranking.{Ranking, ranking_start, ranking_turn, ranking_end}
 use Rattle.evaluator.proofs.ranks.ranks.Statement.{statement}
 use Rattle.evaluator.proofs.ranks.ranks.Tie as tie
 
@@ -39,11 +39,11 @@ ranks_spec = tie.close (tie.spec
     (λ c.
     let l = c.before.before.before in
     let s = l.before.before in
-    ranking-turn (now s.args.blocks) s.args.n s.requires l.loop.at l.loop.b _ _ l.loop.invariant
+    ranking_turn (now s.args.blocks) s.args.n s.requires l.loop.at l.loop.b _ _ l.loop.invariant
     c.before.before.loop-test.true (order_is c) refl)
     (λ c.
     let l = c.before in
     let s = l.before.before in
     let end : l.loop.b ≡ s.args.n = omega (arith, l.loop.invariant.within, c.loop-test.false) in
-    ranking-end (now s.args.blocks) s.args.n s.requires l.loop.at
+    ranking_end (now s.args.blocks) s.args.n s.requires l.loop.at
     (subst (Ranking (now s.args.blocks) s.args.n l.loop.at) end l.loop.invariant)))

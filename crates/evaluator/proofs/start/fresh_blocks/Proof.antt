@@ -1,6 +1,6 @@
 -- `evaluator::start::fresh_blocks` meets its contract: after b turns the first b blocks have their fresh bytes.
 use Rattle.wire.proofs.Usual.{◌≡◌, ap, ◌∙◌, List, ℕ, ◌-◌, ◌*◌, ◌≤◌, arith, needs, length, sets, now}
-use Rattle.wire.proofs.Records.{gathered, gathered_none, gathered-length, gathered-more, gathered_all}
+use Rattle.wire.proofs.Records.{gathered, gathered_none, gathered_length, gathered_more, gathered_all}
 use Rattle.block.specs.State.{fresh_bytes, state_size}
 use Rattle.evaluator.proofs.FreshFormed.{fresh_long}
 use Rattle.evaluator.proofs.start.fresh_blocks.Statement.{statement}
@@ -23,7 +23,7 @@ kept : (c : tie.At-loop invariant-loop decreases-loop) → length c.loop.cells �
 kept c =
     let s = c.before.before in
     ap length c.loop.invariant.1
-    ∙ gathered-length state_size bytes (now s.args.cells) c.loop.b long (omega (arith, s.requires))
+    ∙ gathered_length state_size bytes (now s.args.cells) c.loop.b long (omega (arith, s.requires))
 
 -- one block more
 loop_again : tie.Need-loop-preserved invariant-loop decreases-loop
@@ -36,7 +36,7 @@ loop_again c =
       omega arith,
       p.put.ensures
           ∙ (λ i. sets (l.loop.invariant.1 i) (state_size * b) (k.fresh.ensures i))
-          ∙ gathered-more state_size bytes (now s.args.cells) b long
+          ∙ gathered_more state_size bytes (now s.args.cells) b long
           (omega (arith, s.requires, k.before.loop-test.true)),
     )
 

@@ -9,8 +9,8 @@ use Rattle.evaluator.specs.Net.{reads}
 use Rattle.evaluator.specs.State.{cell}
 use Rattle.evaluator.specs.Cycle.{wires}
 use Rattle.evaluator.specs.Asks.{turned, words_of, Named}
-use Rattle.evaluator.proofs.Turning.{lent_to, left_is, left-long, entering-is, cell-left, noted-not, noted-is}
-use Rattle.evaluator.proofs.Turning.{word_first, word-second, arithmetic-turned, found-read}
+use Rattle.evaluator.proofs.Turning.{lent_to, left_is, left_long, entering-is, cell-left, noted_not, noted-is}
+use Rattle.evaluator.proofs.Turning.{word_first, word_second, arithmetic_turned, found_read}
 use Rattle.evaluator.proofs.turns.arithmetic_turn.Statement.{statement}
 use Rattle.evaluator.proofs.turns.arithmetic_turn.Tie as tie
 
@@ -52,7 +52,7 @@ made : (c : tie.After-parameters-of) →
     ≡ turned a.h (now a.blocks) (now a.rec) a.phase (now a.state) a.b
 made c =
     let p = (start_of (begin_of c)).requires.1.1 in
-    arithmetic-turned p.0 p.1.1 _ _ (first c) (second c) _ _ c.before.kind-of.ensures
+    arithmetic_turned p.0 p.1.1 _ _ (first c) (second c) _ _ c.before.kind-of.ensures
     c.parameters-of.ensures
 
 -- it did not enter ERROR
@@ -62,7 +62,7 @@ returns c =
     let k = t.before.before in
     let fits = (start_of (begin_of k)).requires.1.1.1.0.1.1 in
     let e = bad (entering-is _ _ _ _ _ _ (made k) fits _ t.arithmetic-step.ensures.1) c.if1.true in
-    (left_is _ _ _ _ _ _ (made k) fits _ t.arithmetic-step.ensures.0, (noted-not _ _ _ _ _ _ _ e, sym e))
+    (left_is _ _ _ _ _ _ (made k) fits _ t.arithmetic-step.ensures.0, (noted_not _ _ _ _ _ _ _ e, sym e))
 
 -- it did
 returns_2 : tie.Need-returns-2
@@ -79,8 +79,8 @@ returns_2 c =
     let left = left_is _ _ _ _ _ _ (made k) fits _ t.arithmetic-step.ensures.0 in
     let said =
     ap (finding_of a.b (group_in (now a.r)) (kind_in (now a.r)) _ _) (cell-left _ _ _ _ _ _ (made k) fits _ left)
-    ∙ found-read p.0 _ _ (word_first p.0 p.1.1 _ _ (first k) (second k))
-    (word-second p.0 p.1.1 _ _ (first k) (second k)) _
+    ∙ found_read p.0 _ _ (word_first p.0 p.1.1 _ _ (first k) (second k))
+    (word_second p.0 p.1.1 _ _ (first k) (second k)) _
     in
     (left, (n.note.ensures ∙ noted-is _ _ _ _ _ _ _ _ e said, sym e))
 
@@ -105,7 +105,7 @@ arithmetic_turn_spec = tie.close (tie.spec
     let k = t.before.before in
     let s = start_of (begin_of k) in
     let p = s.pre.1.1.1.0 in
-    let long = left-long _ _ _ _ _ _ (made k) p.1.1 _ t.arithmetic-step.ensures.0 in
+    let long = left_long _ _ _ _ _ _ (made k) p.1.1 _ t.arithmetic-step.ensures.0 in
     (p.0, (p.1.0, omega (arith, p.1.1, long))))
     (λ c. search needs) (λ c. search needs)
     returns_2)

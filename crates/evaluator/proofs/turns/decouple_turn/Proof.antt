@@ -5,7 +5,7 @@ use Rattle.block.specs.Step.{decouple_step, decouple_bytes}
 use Rattle.block.specs.State.{enters_from}
 use Rattle.block.proofs.Enters.{holds-enters}
 use Rattle.evaluator.specs.Asks.{turned}
-use Rattle.evaluator.proofs.Turning.{lent_to, left_is, entering-is, decouple-turned}
+use Rattle.evaluator.proofs.Turning.{lent_to, left_is, entering-is, decouple_turned}
 use Rattle.evaluator.proofs.turns.decouple_turn.Statement.{statement}
 use Rattle.evaluator.proofs.turns.decouple_turn.Tie as tie
 
@@ -16,7 +16,7 @@ made : (c : tie.After-port-bits) →
     let a = (start_of c).args in
     decouple_bytes a.phase c.port-bits.result
     ≡ turned a.h (now a.blocks) (now a.rec) a.phase (now a.state) a.b
-made c = let p = (start_of c).requires in decouple-turned p.1.1.0 p.1.1.1.1 _ c.port-bits.ensures
+made c = let p = (start_of c).requires in decouple_turned p.1.1.0 p.1.1.1.1 _ c.port-bits.ensures
 
 never : (c : tie.After-port-bits) →
     let a = (start_of c).args in

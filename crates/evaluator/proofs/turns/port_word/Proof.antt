@@ -1,7 +1,7 @@
 -- `evaluator::turns::port_word` meets its contract: by the source, 0, the record's word, or what the block's port
 -- shows.
 use Rattle.wire.proofs.Usual.{arith, needs, now}
-use Rattle.evaluator.proofs.Reading.{external-word, output-word}
+use Rattle.evaluator.proofs.Reading.{external_word, output_word_is}
 use Rattle.evaluator.proofs.turns.port_word.Statement.{statement}
 use Rattle.evaluator.proofs.turns.port_word.Tie as tie
 
@@ -13,7 +13,7 @@ returns_2 c =
     let s = start_of c.before.before.before.before.before in
     let a = s.args in
     rw c.before.before.before.source.given.1
-    (external-word a.h (now a.blocks) (now a.rec) (now a.state) _ _ _ c.before.part_at.ensures
+    (external_word a.h (now a.blocks) (now a.rec) (now a.state) _ _ _ c.before.part_at.ensures
     c.read32.ensures)
 
 returns_3 : tie.Need-returns-3
@@ -21,7 +21,7 @@ returns_3 c =
     let s = start_of c.before.before.before.before in
     let a = s.args in
     rw c.before.before.source2.given.1
-    (output-word a.h (now a.blocks) (now a.rec) (now a.state) _ _ _ c.port-shows.ensures)
+    (output_word_is a.h (now a.blocks) (now a.rec) (now a.state) _ _ _ c.port-shows.ensures)
 
 pub port_word_spec : {M : Type 1} → statement M
 port_word_spec = tie.close (tie.spec

@@ -3,7 +3,7 @@ use Rattle.wire.proofs.Usual.{◌≡◌, sym, ap, ◌∙◌, false, needs, now}
 use Rattle.kind.specs.Kinds.{family_of}
 use Rattle.project.specs.Project.{kind_in}
 use Rattle.block.proofs.Enters.{stop_enters}
-use Rattle.evaluator.proofs.Turning.{left_is, entering-is, noted-not, unknown-turned}
+use Rattle.evaluator.proofs.Turning.{left_is, entering-is, noted_not, unknown_turned}
 use Rattle.evaluator.proofs.turns.reading_turn.Statement.{statement}
 use Rattle.evaluator.proofs.turns.reading_turn.Tie as tie
 
@@ -19,7 +19,7 @@ returns : tie.Need-returns
 returns c =
     let d = c.before.before in
     let r = d.decouple-turn.ensures in
-    (r.0, (noted-not _ _ _ _ _ _ _ r.1.1, r.1.0))
+    (r.0, (noted_not _ _ _ _ _ _ _ r.1.1, r.1.0))
 
 -- nor does a block of no kind
 returns_4 : tie.Need-returns-4
@@ -29,10 +29,10 @@ returns_4 c =
     let f = k.before.before in
     let s = start_of f in
     let p = s.pre.1.1 in
-    let e = unknown-turned p.0 (sym (family f) ∙ k.enum-told4.given.1) in
+    let e = unknown_turned p.0 (sym (family f) ∙ k.enum-told4.given.1) in
     let fits = p.1.1.1 in
     let quiet = entering-is _ _ _ _ _ _ e fits false (sym (stop_enters _)) in
-    (left_is _ _ _ _ _ _ e fits _ t.stop.ensures, (noted-not _ _ _ _ _ _ _ (sym quiet), quiet))
+    (left_is _ _ _ _ _ _ e fits _ t.stop.ensures, (noted_not _ _ _ _ _ _ _ (sym quiet), quiet))
 
 pub reading_turn_spec : {M : Type 1} → statement M
 reading_turn_spec = tie.close (tie.spec

@@ -8,7 +8,7 @@ use Rattle.block.specs.State.{state_size}
 use Rattle.block.specs.Finding.{finding_size}
 use Rattle.evaluator.specs.State.{state_head}
 use Rattle.evaluator.proofs.Reading.{standing_on}
-use Rattle.evaluator.proofs.Running.{Held, held_start, held-turn, held-state, held-findings, held_none}
+use Rattle.evaluator.proofs.Running.{Held, held_start, held_turn, held_state, held_findings, held_none}
 use Rattle.evaluator.proofs.turns.take_turns.Statement.{statement}
 use Rattle.evaluator.proofs.turns.take_turns.Tie as tie
 
@@ -45,7 +45,7 @@ loop_again c =
     let s = start_of l in
     let a = s.args in
     let e = t.turn.ensures in
-    held-turn a.h (now a.blocks) (now a.rec) (now a.phases) (now a.ranks) (now a.state)
+    held_turn a.h (now a.blocks) (now a.rec) (now a.phases) (now a.ranks) (now a.state)
     (now a.findings) a.n s.pre
     l.loop.state l.loop.findings l.loop.some l.loop.e y.byte_at.result l.loop.invariant (block y).0
     (block y).1
@@ -70,10 +70,10 @@ returns c =
     let l = c.before in
     let s = start_of l in
     let a = s.args in (
-      held-state a.h (now a.blocks) (now a.rec) (now a.phases) (now a.ranks) (now a.state)
+      held_state a.h (now a.blocks) (now a.rec) (now a.phases) (now a.ranks) (now a.state)
           (now a.findings) a.n s.pre _ _ _ (ended c),
       (
-        held-findings a.h (now a.blocks) (now a.rec) (now a.phases) (now a.ranks) (now a.state)
+        held_findings a.h (now a.blocks) (now a.rec) (now a.phases) (now a.ranks) (now a.state)
             (now a.findings) a.n s.pre _ _ _ (ended c),
         held_none a.h (now a.blocks) (now a.rec) (now a.phases) (now a.ranks) (now a.state)
             (now a.findings) a.n s.pre _ _ _ (ended c),

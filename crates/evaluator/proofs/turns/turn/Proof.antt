@@ -8,8 +8,8 @@ use Rattle.block.specs.Step.{asks_inputs}
 use Rattle.evaluator.specs.State.{state_head, cell}
 use Rattle.evaluator.specs.Groups.{control_byte}
 use Rattle.evaluator.specs.Asks.{phase_at, Within, turned, entering, noted}
-use Rattle.evaluator.proofs.Reading.{cell-is, record_is, cell-there, record-there}
-use Rattle.evaluator.proofs.Turning.{left_is, noted-not, rest-turned, rest-quiet}
+use Rattle.evaluator.proofs.Reading.{cell-is, record_is, cell_there, record_there}
+use Rattle.evaluator.proofs.Turning.{left_is, noted_not, rest_turned, rest_quiet}
 use Rattle.evaluator.proofs.turns.turn.Statement.{statement}
 use Rattle.evaluator.proofs.turns.turn.Tie as tie
 
@@ -45,7 +45,7 @@ acked c =
 within : (s : tie.Start) → let a = s.args in Within a.h a.b (now a.state)
 within s = (
   omega (arith, s.requires.1.inside, s.requires.0.few_blocks),
-  (s.requires.0.few, cell-there s.requires.0 s.args.b s.requires.1.inside),
+  (s.requires.0.few, cell_there s.requires.0 s.args.b s.requires.1.inside),
 )
 
 -- whether it asks
@@ -90,19 +90,19 @@ returns_2 c =
     let p = phase-is k.before.before in
     let quiet = sym (asks_is d.before) ∙ d.if1.false in
     let e =
-    rest-turned a.h (now a.blocks) (now a.rec) (now a.state) a.b _ quiet _ (acked k)
+    rest_turned a.h (now a.blocks) (now a.rec) (now a.state) a.b _ quiet _ (acked k)
     ∙ ap (λ (q : ℕ). turned a.h (now a.blocks) (now a.rec) q (now a.state) a.b) p
     in
     let none =
     ap (λ (q : ℕ). entering a.h (now a.blocks) (now a.rec) q (now a.state) a.b) (sym p)
-    ∙ rest-quiet a.h (now a.blocks) (now a.rec) (now a.state) a.b _ quiet
+    ∙ rest_quiet a.h (now a.blocks) (now a.rec) (now a.state) a.b _ quiet
     in
-    (left_is _ _ _ _ _ _ e (within s).1.1 _ r.rest.ensures, (noted-not _ _ _ _ _ _ _ none, sym none))
+    (left_is _ _ _ _ _ _ e (within s).1.1 _ r.rest.ensures, (noted_not _ _ _ _ _ _ _ none, sym none))
 
 pub turn_spec : {M : Type 1} → statement M
 turn_spec = tie.close (tie.spec
     (λ c. omega (arith, within c.before.before.before.before.before))
-    (λ c κs. let s = c.before.before.before.before.before in record-there s.requires.0 _ s.requires.1.inside)
+    (λ c κs. let s = c.before.before.before.before.before in record_there s.requires.0 _ s.requires.1.inside)
     (λ c κs. search needs) (λ c. search needs)
     (λ c κs.
     let s = start_of c.before in

@@ -7,8 +7,8 @@ use Rattle.block.specs.Inputs.{effective_mask, bits_from}
 use Rattle.block.specs.Step.{twohand_bytes}
 use Rattle.block.specs.Finding.{finding_of}
 use Rattle.evaluator.specs.Asks.{turned, words_of}
-use Rattle.evaluator.proofs.Turning.{lent_to, left_is, entering-is, cell-left, noted-not, noted-is, hands-first}
-use Rattle.evaluator.proofs.Turning.{hands-second, twohand-turned, found-read}
+use Rattle.evaluator.proofs.Turning.{lent_to, left_is, entering-is, cell-left, noted_not, noted-is, hands-first}
+use Rattle.evaluator.proofs.Turning.{hands_second, twohand_turned, found_read}
 use Rattle.evaluator.proofs.turns.twohand_turn.Statement.{statement}
 use Rattle.evaluator.proofs.turns.twohand_turn.Tie as tie
 
@@ -34,7 +34,7 @@ made : (c : tie.After-read16) →
     ≡ turned a.h (now a.blocks) (now a.rec) a.phase (now a.state) a.b
 made c =
     let p = (start_of c).requires in
-    twohand-turned p.1.1.0 p.1.1.1.1 _ (mask c) _ _
+    twohand_turned p.1.1.0 p.1.1.1.1 _ (mask c) _ _
     c.before.before.before.before.parameters-of.ensures
     c.read16.ensures
 
@@ -46,7 +46,7 @@ returns c =
     let s = start_of k in
     let fits = s.pre.1.1.1.0.1.1 in
     let e = bad (entering-is _ _ _ _ _ _ (made k) fits _ t.twohand-step.ensures.1) c.if1.true in
-    (left_is _ _ _ _ _ _ (made k) fits _ t.twohand-step.ensures.0, (noted-not _ _ _ _ _ _ _ e, sym e))
+    (left_is _ _ _ _ _ _ (made k) fits _ t.twohand-step.ensures.0, (noted_not _ _ _ _ _ _ _ e, sym e))
 
 -- it did
 returns_2 : tie.Need-returns-2
@@ -64,7 +64,7 @@ returns_2 c =
     let said =
     ap (finding_of a.b (group_in (now a.r)) (kind_in (now a.r)) k.before.effective.result 0)
     (cell-left _ _ _ _ _ _ (made k) fits _ left)
-    ∙ found-read p.0 _ 0 (hands-first p.0 p.1.1 _ (mask k)) (hands-second p.0 p.1.1 _ (mask k)) _
+    ∙ found_read p.0 _ 0 (hands-first p.0 p.1.1 _ (mask k)) (hands_second p.0 p.1.1 _ (mask k)) _
     in
     (left, (n.note.ensures ∙ noted-is _ _ _ _ _ _ _ _ e said, sym e))
 

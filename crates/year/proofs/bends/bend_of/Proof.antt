@@ -4,7 +4,7 @@ use mathlib.Core.Logic.{⊎_elim}
 use Rattle.year.specs.Ledger.{month_count}
 use Rattle.year.specs.Bends.{sides_at, largest, bend_of}
 use Rattle.year.specs.Asks.{SmallSides}
-use Rattle.year.proofs.Sums.{sides-small}
+use Rattle.year.proofs.Sums.{sides_small}
 use Rattle.year.proofs.Bending.{Top, begin, take, keep, found, nothing}
 use Rattle.year.proofs.bends.bend_of.Statement.{statement}
 use Rattle.year.proofs.bends.bend_of.Tie as tie
@@ -24,7 +24,7 @@ loop_again c =
     let better = c.before.is-better.ensures in
     ⊎_elim
     (λ w. rw (w.1, w.2, w.3, s.sides-at2.ensures) (
-      sides-small _ a.before.before.requires _ l.loop-test.true,
+      sides_small _ a.before.before.requires _ l.loop-test.true,
       take _ _ _ _ _ _ a.loop.invariant.1 l.loop-test.true
           (rw s.sides-at2.ensures at (sym better ∙ w.0.taken)),
     ))
@@ -46,10 +46,10 @@ unfolding bend_of largest
 bend_of_spec = tie.close (tie.spec
     invariant-loop decreases-loop
     (λ c κs. search needs)
-    (λ c. (rw c.sides-at.ensures (sides-small _ c.before.requires 0 (omega arith)), begin _ _ _ _))
+    (λ c. (rw c.sides-at.ensures (sides_small _ c.before.requires 0 (omega arith)), begin _ _ _ _))
     (λ c κs. search needs)
     (λ c κs. (
-      rw c.sides-at2.ensures (sides-small _ c.before.before.before.before.requires _
+      rw c.sides-at2.ensures (sides_small _ c.before.before.before.before.requires _
           c.before.loop-test.true),
       c.before.before.loop.invariant.0,
     ))

@@ -2,7 +2,7 @@
 use Rattle.wire.proofs.Usual.{◌≡◌, ap, ap₂, ◌∙◌, ◌-◌, ◌≤◌, ◌&&◌, arith, needs, now}
 use Rattle.year.specs.Ledger.{finding_count, finding_at}
 use Rattle.year.specs.Months.{counts, is_dismissed, found, dismissed}
-use Rattle.year.proofs.Counting.{Hit, hit-begin, hit-more}
+use Rattle.year.proofs.Counting.{Hit, hit_begin, hit_more}
 use Rattle.year.proofs.months.counts_of.Statement.{statement}
 use Rattle.year.proofs.months.counts_of.Tie as tie
 
@@ -19,7 +19,7 @@ unfolding found dismissed
 counts_of_spec = tie.close (tie.spec
     invariant-loop decreases-loop
     (λ c κs. search needs)
-    (λ c. (omega arith, hit-begin _, hit-begin _))
+    (λ c. (omega arith, hit_begin _, hit_begin _))
     (λ c κs. search needs) (λ c κs. search needs) (λ c κs. search needs)
     (λ c.
     let l = c.before.before.before.before in
@@ -37,8 +37,8 @@ counts_of_spec = tie.close (tie.spec
     let counted = c.before.before.before.is-counted.ensures ∙ ap (counts a.c) f.finding-at.ensures in
     let gone = c.before.is-dismissed.ensures ∙ ap is_dismissed f.finding-at.ensures in (
       omega arith,
-      hit-more _ _ _ _ _ l.loop.invariant.1 counted one.0 one.1,
-      hit-more _ _ _ _ _ l.loop.invariant.2 (ap₂ ◌&&◌ counted gone) c.one2.ensures.0 c.one2.ensures.1,
+      hit_more _ _ _ _ _ l.loop.invariant.1 counted one.0 one.1,
+      hit_more _ _ _ _ _ l.loop.invariant.2 (ap₂ ◌&&◌ counted gone) c.one2.ensures.0 c.one2.ensures.1,
     ))
     (λ c.
     let l = c.before in

@@ -1,6 +1,6 @@
 -- `year::months::lines_of` meets its contract: the loop fills line by line.
 use Rattle.wire.proofs.Usual.{refl, ◌-◌, needs}
-use Rattle.year.proofs.Filling.{Filled, fill-begin, fill_more, fill_done}
+use Rattle.year.proofs.Filling.{Filled, fill_begin, fill_more, fill_done}
 use Rattle.year.specs.Year.{month_line, lines_of}
 use Rattle.year.specs.Ledger.{month_count}
 use Rattle.year.specs.Months.{line_of}
@@ -18,7 +18,7 @@ unfolding lines_of
 lines_of_spec = tie.close (tie.spec
     invariant-loop decreases-loop
     (λ c κs. search needs)
-    (λ c. fill-begin _ _ _ _ refl)
+    (λ c. fill_begin _ _ _ _ refl)
     (λ c κs. search needs)
     (λ c. search needs) (λ c. search needs) (λ c. search needs) (λ c. search needs)
     (λ c. fill_more _ _ _ _ _ _ c.before.before.loop.invariant c.before.loop-test.true
