@@ -1,5 +1,4 @@
 -- By the family; where the definition asks that a run of bytes is 0, the code asks it of four at a time.
-use Rattle.wire.proofs.Usual.{◌≡◌}
 use Rattle.kind.specs.Parameters.{parameters_fit}
 use Rattle.kind.proofs.Zeros.{zeros4, zeros8, zeros12, and_assoc}
 use Rattle.kind.proofs.parameters.parameters_fit.Goals as goal
