@@ -16,7 +16,6 @@ pub fn wide(x: u8) -> u32
 }
 
 // TWOHAND's effective mask, from the bits of its four raw inputs.
-#[tactic(auto, unfolding(crate::specs::Inputs::effective_mask))]
 pub fn effective(p: &[u8], raw: u32) -> u32
     ensures { result ≡ effective_mask p.now raw }
 {
