@@ -12,25 +12,37 @@ import os
 import re
 import sys
 
+INNER = re.compile(r"^\s+(?:(?:pub|abbrev|unfoldable)\s+)*([a-z][\w'₀-₉]*-[\w'₀-₉-]*) :")
 DECLARED = re.compile(r"^(?:(?:unfoldable|abbrev|private|pub|record|data|ruleset)\s+)*([^\s:({=]+)\s*(?:[({].*)?(?::|=|$)")
 TOKEN = re.compile(r"[A-Za-z0-9_'₀-₉Σφ≤<≡≢-]+")
 MADE = re.compile(r"^(invariant|decreases)-")
 # words of std that stand first in lemmas of ours
 STD = {"length", "get_or", "take", "drop", "replicate", "sets", "set", "append", "cond", "eqb", "map"}
+# names that std has too, and imports of them stand beside ours
+SHARED = {"and-true"}
 # where the plain rule would let two names fall together, or a word would hide another
 OWN = {
+    "contents-ok": "contents_is_ok",
     "end-number": "end_number_is",
+    "few-groups": "groups_are_few",
     "group-formed": "group_is_formed",
     "hex-value": "hex_value_is",
     "is-error": "error_is",
+    "new-group": "new_group_is",
     "output-block": "output_block_is",
+    "output-word": "output_word_is",
     "output-zero": "output_of_zero",
     "project-of": "project_is",
+    "read-bytes": "read_bytes_are",
     "read-on": "reads_on",
     "row-at": "row_at_is",
+    "size-counted": "size_counted_is",
     "sizes-of": "sizes_are",
     "slot-getD": "slot_get_or",
     "told-number": "told_number_is",
+    "twohand-bits": "twohand_bits_are",
+    "without-script": "without_script_is",
+    "zero-at": "zero_at_is",
 }
 
 
@@ -53,6 +65,9 @@ def declared():
         if not path.endswith(".antt"):
             continue
         for line in read(path).splitlines():
+            inner = INNER.match(line)
+            if inner and not path.endswith("/Proof.antt"):
+                found.setdefault(inner.group(1), set()).add(path)
             if line.startswith((" ", "--", "use", "pub use", "mod", "pub mod", "unfolding", ")", "{")):
                 continue
             m = DECLARED.match(line)
@@ -77,7 +92,7 @@ def table(found):
     words |= {snake(w) for w in words if small(w)}
     turned = {}
     for name in found:
-        if not small(name) or MADE.match(name):
+        if not small(name) or MADE.match(name) or name in SHARED:
             continue
         if name in OWN:
             turned[name] = OWN[name]

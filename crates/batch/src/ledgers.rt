@@ -1,5 +1,5 @@
 // The answer to a ledger over the pipe.
-use libc::STDOUT_FILENO;
+use crate::STDOUT_FILENO;
 use year::{Line, MONTHS, Share, Table};
 
 // The bytes of a line.

@@ -10,12 +10,20 @@
 //     for a rate or 0 for none, and the rate's 64 bits or 0; a bend is one byte, its month or 0 for none
 // A buffer that there is no room for, another letter, or an end in the middle of a request ends the program with a
 // line on standard error; answers already given stand.
+#![tactic(auto)]
+
 ghost use Rattle.io.specs.Counts.{IsPrefixLen};
 
 mod ledgers;
 
 use evaluator::Answer;
-use libc::{STDERR_FILENO, STDIN_FILENO, STDOUT_FILENO};
+
+// The numbers of standard input, output and error.
+const STDIN_FILENO: i32 = 0;
+
+const STDOUT_FILENO: i32 = 1;
+
+const STDERR_FILENO: i32 = 2;
 
 // Room for a file, one byte more than any ledger that is accepted, and for each other buffer.
 const FILE_ROOM: usize = 294937;

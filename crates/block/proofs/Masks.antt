@@ -60,28 +60,28 @@ evens = refl
 
 -- active masks of more than four bits have no second pair that differs
 module _ (a x : ℕ) (l : ltb x 16 ≡ true) (e : eqb (apart (a % 16) x) 0 ≡ true) where
-  both-even : not (differs (a % 16 % 4) (x % 4)) && not (differs (a % 16 / 4) (x / 4)) ≡ true
-  both-even =
+  both_even : not (differs (a % 16 % 4) (x % 4)) && not (differs (a % 16 / 4) (x / 4)) ≡ true
+  both_even =
       let inner = all_each (λ a. all (even a) 16) 16 evens (a % 16) (omega arith) in
       rw e at (all_each (even (a % 16)) 16 inner x (ltb-true x 16 l))
 
-  first-even : differs (a % 4) (x % 4) ≡ false
-  first-even =
+  first_even : differs (a % 4) (x % 4) ≡ false
+  first_even =
       let four : a % 16 % 4 ≡ a % 4 = omega arith in
       rw four at (not-true (differs (a % 16 % 4) (x % 4))
-      (both_left (not (differs (a % 16 % 4) (x % 4))) (not (differs (a % 16 / 4) (x / 4))) both-even))
+      (both_left (not (differs (a % 16 % 4) (x % 4))) (not (differs (a % 16 / 4) (x / 4))) both_even))
 
-  second-even : differs (a / 4) (x / 4) ≡ false
-  second-even = go (dec_lt a 16)
+  second_even : differs (a / 4) (x / 4) ≡ false
+  second_even = go (dec_lt a 16)
     where
       go : Dec (a < 16) → differs (a / 4) (x / 4) ≡ false
       go (yes s) =
           rw (mod-eq_of_lt s) at (not-true (differs (a % 16 / 4) (x / 4))
-          (both_right (not (differs (a % 16 % 4) (x % 4))) (not (differs (a % 16 / 4) (x / 4))) both-even))
+          (both_right (not (differs (a % 16 % 4) (x % 4))) (not (differs (a % 16 / 4) (x / 4))) both_even))
       go (no n) = rw (ne_eqb (a / 4) 3 (λ q. n (omega arith)))
 
 pub none_apart : (a x : ℕ) → ltb x 16 && eqb (apart (a % 16) x) 0 ≡ true → Even a x
 none_apart a x h =
     let l = both_left (ltb x 16) (eqb (apart (a % 16) x) 0) h in
     let e = both_right (ltb x 16) (eqb (apart (a % 16) x) 0) h in
-    record { first = first-even a x l e; second = second-even a x l e }
+    record { first = first_even a x l e; second = second_even a x l e }

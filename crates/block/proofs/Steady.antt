@@ -61,4 +61,4 @@ module _ (P : List ℕ) (ms x : ℕ) (old : BlockState) (w : is_waiting old.code
 -- it does not enter ERROR
 pub moves_on : (s : List ℕ) (code : ℕ) (h : Hands) → enters_from s (encode (plain (next_code code h))) ≡ false
 unfolding enters_from encode
-moves_on s code h = rw (next_moves code h).errs-not
+moves_on s code h = rw (next_moves code h).errs_not

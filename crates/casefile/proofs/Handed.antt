@@ -12,7 +12,7 @@ module _ (F : List ℕ) {S : Starts} (s : S ≡ starts_of F) where
   pub body_is : (e : ℕ) {X : List ℕ} → X ≡ stretch_of F S e → X ≡ body_in F e
   body_is e x = x ∙ ap (λ (S : Starts). stretch_of F S e) s ∙ stretch_body F e
 
-  pub bodies-are : {G I B O : List ℕ} → G ≡ stretch_of F S body_g → I ≡ stretch_of F S body_i →
+  pub bodies_are : {G I B O : List ℕ} → G ≡ stretch_of F S body_g → I ≡ stretch_of F S body_i →
       B ≡ stretch_of F S body_b → O ≡ stretch_of F S body_o → bodies G I B O ≡ project_of F
   unfolding project_of
-  bodies-are g n b o = λ i. bodies (body_is body_g g i) (body_is body_i n i) (body_is body_b b i) (body_is body_o o i)
+  bodies_are g n b o = λ i. bodies (body_is body_g g i) (body_is body_i n i) (body_is body_b b i) (body_is body_o o i)

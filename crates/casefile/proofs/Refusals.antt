@@ -9,7 +9,7 @@ use lib.ListN.{get_or}
 use Rattle.wire.specs.Places.{first_bad, all}
 use Rattle.wire.proofs.Places.{Passed, found, all_each}
 use Rattle.wire.specs.Tables.{Row, first, row_at}
-use Rattle.wire.proofs.Tables.{numbered, kept_at, number_some, first-zero, first-hit, first_done}
+use Rattle.wire.proofs.Tables.{numbered, kept_at, number_some, first_zero, first_hit, first_done}
 use Rattle.casefile.specs.declared.Verdict.TheVariants.{Accepted, Refused}
 use Rattle.casefile.specs.declared.table.Rule.{Rule}
 use Rattle.casefile.specs.declared.table.Rule.TheVariants.{Size}
@@ -85,7 +85,7 @@ module _ (F : List ℕ) {k : ℕ} (e : k ≡ first_bad (kept_at (file_table F)) 
       let fails = ap (kept_at (file_table F)) e ∙ (found (kept_at (file_table F)) rule_count).fails (omega arith) in
       let some = number_some (file_table F) (file_numbered F) k fails in
       told_some (refusal_of (rule_at k)) (λ z. omega (arith, z, number, some))
-      ∙ ap told (sym (first-hit (file_table F) e l ∙ number))
+      ∙ ap told (sym (first_hit (file_table F) e l ∙ number))
 
   pub accepted : rule_count ≤ k → Accepted ≡ verdict F
   unfolding verdict file_table
@@ -103,12 +103,12 @@ module _ (F : List ℕ) where
       go true e = sym (eqb-true (first (file_table F)) 0 e)
       go false e = refl
 
-  pub number-zero : first (file_table F) ≡ 0 → verdict F ≡ Accepted
+  pub number_zero : first (file_table F) ≡ 0 → verdict F ≡ Accepted
   unfolding verdict
-  number-zero z = ap told z
+  number_zero z = ap told z
 
-  pub accepted-zero : verdict F ≡ Accepted → first (file_table F) ≡ 0
-  accepted-zero h = sym number_is ∙ ap number_of h
+  pub accepted_zero : verdict F ≡ Accepted → first (file_table F) ≡ 0
+  accepted_zero h = sym number_is ∙ ap number_of h
 
 -- ---- the rules of an accepted file one by one: `search` finds a test among them by what it says, and not by its place
 
@@ -122,4 +122,4 @@ one_by_one F (r ∷ rs) h = (h 0, one_by_one F rs (λ k. h (suc k)))
 
 pub every : (F : List ℕ) → verdict F ≡ Accepted → Held F rules
 unfolding file_table
-every F h = one_by_one F rules ((first-zero (file_table F) (file_numbered F)).0 (accepted-zero F h))
+every F h = one_by_one F rules ((first_zero (file_table F) (file_numbered F)).0 (accepted_zero F h))

@@ -41,14 +41,14 @@ own_start F (suc (suc (suc (suc zero)))) l = refl
 own_start F (suc (suc (suc (suc (suc e))))) l = absurd (omega arith)
 
 module _ (F : List ℕ) (r : Right body_count F) where
-  own-next : (e : ℕ) → e < body_count → start_in (table_starts F) (e + 1) ≡ body_start F e + body_size F e
+  own_next : (e : ℕ) → e < body_count → start_in (table_starts F) (e + 1) ≡ body_start F e + body_size F e
   unfolding start_in
-  own-next zero l = r.follows 0 (omega arith)
-  own-next (suc zero) l = r.follows 1 (omega arith)
-  own-next (suc (suc zero)) l = r.follows 2 (omega arith)
-  own-next (suc (suc (suc zero))) l = r.follows 3 (omega arith)
-  own-next (suc (suc (suc (suc zero)))) l = sym r.last
-  own-next (suc (suc (suc (suc (suc e))))) l = absurd (omega arith)
+  own_next zero l = r.follows 0 (omega arith)
+  own_next (suc zero) l = r.follows 1 (omega arith)
+  own_next (suc (suc zero)) l = r.follows 2 (omega arith)
+  own_next (suc (suc (suc zero))) l = r.follows 3 (omega arith)
+  own_next (suc (suc (suc (suc zero)))) l = sym r.last
+  own_next (suc (suc (suc (suc (suc e))))) l = absurd (omega arith)
 
 -- the starts of a file lie within it
 within : (F : List ℕ) → Within F (starts_of F)
@@ -59,8 +59,8 @@ within F = go (contents_ok body_count F) refl
     go true h =
         let r = right body_count F h in
         record {
-          ordered = λ e l. omega (arith, own_start F e l, own-next F r e l);
-          inside = λ e l. omega (arith, own-next F r e l, ends r e l);
+          ordered = λ e l. omega (arith, own_start F e l, own_next F r e l);
+          inside = λ e l. omega (arith, own_next F r e l, ends r e l);
         }
     go false h = record {
       ordered = λ e l. omega (arith, none e, none (e + 1));
@@ -96,7 +96,7 @@ stretch_body F e = go (contents_ok body_count F) refl (dec_lt e body_count)
     go true h (yes l) =
         let start = own_start F e l in
         let size : start_in (table_starts F) (e + 1) - start_in (table_starts F) e ≡ body_size F e =
-        omega (arith, start, own-next F (right body_count F h) e l) in
+        omega (arith, start, own_next F (right body_count F h) e l) in
         (λ i. take (size i) (drop (start i) F))
         ∙ sym (ap (λ (b : Bool). cond b (body_of F e) []) (lt-ltb e body_count l))
     go true h (no n) =

@@ -8,7 +8,7 @@ use borrow.Author.Tests.{leb-true}
 use lib.Dec.{leb}
 use Rattle.wire.specs.Tables.{Row, first}
 use Rattle.wire.proofs.Places.{both_left, both_right}
-use Rattle.wire.proofs.Tables.{numbered, first-zero, first_some}
+use Rattle.wire.proofs.Tables.{numbered, first_zero, first_some}
 use Rattle.project.specs.Project.{Project}
 use Rattle.casefile.specs.Bodies.{project_of}
 use Rattle.casefile.specs.Refusal.{file_table, told, verdict, number_of}
@@ -34,7 +34,7 @@ by_table t {n} up e = record {
   refused = λ k.
       let some = first_some t each (suc k) (λ z. omega (arith, z)) in
       (λ m. some.0 (sym e ∙ m), λ f. e ∙ some.1 f);
-  accepted = (λ z. (first-zero t each).0 (sym e ∙ z), λ a. e ∙ (first-zero t each).1 a);
+  accepted = (λ z. (first_zero t each).0 (sym e ∙ z), λ a. e ∙ (first_zero t each).1 a);
   lowest = up;
 }
   where
@@ -44,27 +44,27 @@ by_table t {n} up e = record {
 -- ---- a cycle call
 
 module _ (P : Project) (R : List ℕ) (L : Lent) where
-  left-number : (n : ℕ) → number_in (leaves n P R L).answer ≡ n
-  left-number zero = refl
-  left-number (suc n) = refl
+  left_number : (n : ℕ) → number_in (leaves n P R L).answer ≡ n
+  left_number zero = refl
+  left_number (suc n) = refl
 
-  left-untouched : (n : ℕ) → n ≢ 0 → (leaves n P R L).lent ≡ L
-  left-untouched zero h = absurd (h refl)
-  left-untouched (suc n) h = refl
+  left_untouched : (n : ℕ) → n ≢ 0 → (leaves n P R L).lent ≡ L
+  left_untouched zero h = absurd (h refl)
+  left_untouched (suc n) h = refl
 
-  left-count : (n : ℕ) → n ≡ 0 →
+  left_count : (n : ℕ) → n ≡ 0 →
       (leaves n P R L).answer ≡ Findings (finding_count P.groups P.blocks R L.state)
-  left-count zero e = refl
-  left-count (suc n) e = absurd (omega (arith, e))
+  left_count zero e = refl
+  left_count (suc n) e = absurd (omega (arith, e))
 
 answered : (F R : List ℕ) (L : Lent) → Answered F R L
 unfolding cycle_of refusal call_table file_table rising
 answered F R L =
-    let n = left-number (project_of F) R L (refusal F R L) in
+    let n = left_number (project_of F) R L (refusal F R L) in
     record {
       number = by_table (call_table F R L) refl n;
-      untouched = λ h. left-untouched (project_of F) R L (refusal F R L) (λ z. h (n ∙ z));
-      count = λ z. left-count (project_of F) R L (refusal F R L) (sym n ∙ z);
+      untouched = λ h. left_untouched (project_of F) R L (refusal F R L) (λ z. h (n ∙ z));
+      count = λ z. left_count (project_of F) R L (refusal F R L) (sym n ∙ z);
     }
 
 -- ---- a check, the sizes, the fresh state

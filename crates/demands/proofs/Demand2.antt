@@ -26,12 +26,12 @@ use Rattle.evaluator.specs.Cycle.{net, ran, turned_from, wires, new_block, words
 use Rattle.evaluator.specs.Cycle.{finding, finding_count}
 use Rattle.evaluator.specs.Answer.{Lent, Left, refusal, leaves, cycle_of}
 use Rattle.evaluator.proofs.Agree.{unique}
-use Rattle.evaluator.proofs.Cycles.{new-stepped}
-use Rattle.evaluator.proofs.Checked.{new-formed}
+use Rattle.evaluator.proofs.Cycles.{new_stepped}
+use Rattle.evaluator.proofs.Checked.{new_formed}
 use Rattle.evaluator.proofs.Checking.{taken}
-use Rattle.evaluator.proofs.Calls.{call-refused, call-done, call-taken, call-passed}
+use Rattle.evaluator.proofs.Calls.{call_refused, call_done, call_taken, call_passed}
 use Rattle.evaluator.proofs.Running.{found-length}
-use Rattle.evaluator.proofs.FreshFormed.{fresh-state-formed}
+use Rattle.evaluator.proofs.FreshFormed.{fresh_state_formed}
 use Rattle.demands.specs.Demands.{CycledBy, Demand2}
 
 -- ---- the blocks' new bytes
@@ -80,9 +80,9 @@ module _ (w : ℕ) (hit : ℕ → Bool) (f : ℕ → List ℕ) (long : (b : ℕ)
           }
 
   -- the entry of a place that is hit stands after those of the places before it
-  packed-at : (size n b : ℕ) → b < n → hit b ≡ true → slot 0 w (hits b hit) (packed size n hit f) ≡ f b
+  packed_at : (size n b : ℕ) → b < n → hit b ≡ true → slot 0 w (hits b hit) (packed size n hit f) ≡ f b
   unfolding packed
-  packed-at size n b l h =
+  packed_at size n b l h =
       slot_past 0 w (hits b hit) (packed size n hit f)
       ∙ ap (λ (t : List ℕ). take w (drop (w * hits b hit) t)) whole
       ∙ ap (take w) (drop_at (entries b hit f) (f b ++ (c.rest ++ zeros)) (w * hits b hit)
@@ -101,16 +101,16 @@ module _ (w : ℕ) (hit : ℕ → Bool) (f : ℕ → List ℕ) (long : (b : ℕ)
           ∙ ap (λ (t : List ℕ). entries b hit f ++ t) (append_assoc (f b) c.rest zeros)
 
   -- past the entries there are zeros
-  packed-past : (size n i : ℕ) → w * hits n hit ≤ i → byte_at (packed size n hit f) i ≡ 0
+  packed_past : (size n i : ℕ) → w * hits n hit ≤ i → byte_at (packed size n hit f) i ≡ 0
   unfolding packed
-  packed-past size n i l =
+  packed_past size n i l =
       let m = size - length (entries n hit f) in
       let j = i - length (entries n hit f) in
       let at : i ≡ length (entries n hit f) + j = omega (arith, entries-length w hit f n (λ b _. long b)) in
-      ap (byte_at (packed size n hit f)) at ∙ get_or-append-add (entries n hit f) (replicate m 0) j 0 ∙ zero-at m j
+      ap (byte_at (packed size n hit f)) at ∙ get_or-append-add (entries n hit f) (replicate m 0) j 0 ∙ zero_at_is m j
     where
-      zero-at : (m j : ℕ) → byte_at (replicate m 0) j ≡ 0
-      zero-at m j = go (dec_lt j m)
+      zero_at_is : (m j : ℕ) → byte_at (replicate m 0) j ≡ 0
+      zero_at_is m j = go (dec_lt j m)
         where
           go : Dec (j < m) → byte_at (replicate m 0) j ≡ 0
           go (yes q) = get_or-replicate m j 0 0 q
@@ -119,14 +119,14 @@ module _ (w : ℕ) (hit : ℕ → Bool) (f : ℕ → List ℕ) (long : (b : ℕ)
 -- ---- an accepted call
 
 module _ (F R : List ℕ) (L : Lent) where
-  not-refused : (k : ℕ) → (cycle_of F R L).answer ≡ Findings k → refusal F R L ≡ 0
-  not-refused k e = go (ℕ_discrete (refusal F R L) 0)
+  not_refused : (k : ℕ) → (cycle_of F R L).answer ≡ Findings k → refusal F R L ≡ 0
+  not_refused k e = go (ℕ_discrete (refusal F R L) 0)
     where
       go : Dec (refusal F R L ≡ 0) → refusal F R L ≡ 0
       go (yes z) = z
       go (no n) =
           let turned : Refused (refusal F R L) ≡ Findings k =
-          sym (ap (λ (l : Left). l.answer) (call-refused F R L (refusal F R L) refl n)) ∙ e
+          sym (ap (λ (l : Left). l.answer) (call_refused F R L (refusal F R L) refl n)) ∙ e
           in
           let never : ◌≡◌ {A = ℕ} 0 1 = cc in omega arith
 
@@ -137,20 +137,20 @@ module _ (F R : List ℕ) (L : Lent) where
     outputs = ap (λ (l : Left). l.lent.outputs) done;
     findings = ap (λ (l : Left). l.lent.findings) done;
     counted = counted;
-    stepped = new-stepped G B R S sound;
+    stepped = new_stepped G B R S sound;
     read = λ b. refl;
     only = new_only G B R S sound;
     found = λ b l h.
         ap (λ (t : Left). slot 0 finding_size (hits b (enters G B R S)) t.lent.findings) done
-        ∙ packed-at finding_size (enters G B R S) (finding G B R S) (λ b. found-length B b _ _)
+        ∙ packed_at finding_size (enters G B R S) (finding G B R S) (λ b. found-length B b _ _)
         (finding_size * block_count B) (block_count B) b l h;
     unused = λ i l.
         ap (λ (t : Left). byte_at t.lent.findings i) done
-        ∙ packed-past finding_size (enters G B R S) (finding G B R S) (λ b. found-length B b _ _)
+        ∙ packed_past finding_size (enters G B R S) (finding G B R S) (λ b. found-length B b _ _)
         (finding_size * block_count B) (block_count B) i (rw counted at l);
     formed =
         ap (λ (l : Left). state_formed G B l.lent.state) done
-        ∙ new-formed G B R S sound (call-passed F R L zero_number).state;
+        ∙ new_formed G B R S sound (call_passed F R L zero_number).state;
   }
     where
       G : List ℕ
@@ -163,10 +163,10 @@ module _ (F R : List ℕ) (L : Lent) where
       S = L.state
 
       zero_number : refusal F R L ≡ 0
-      zero_number = not-refused k e
+      zero_number = not_refused k e
 
       done : cycle_of F R L ≡ leaves 0 (project_of F) R L
-      done = call-done F R L zero_number
+      done = call_done F R L zero_number
 
       counted : k ≡ hits (block_count B) (enters G B R S)
       counted =
@@ -175,7 +175,7 @@ module _ (F R : List ℕ) (L : Lent) where
           in cc
 
       sound : Sound G B (input_count (project_of F).inputs)
-      sound = (call-taken F R L zero_number).sound
+      sound = (call_taken F R L zero_number).sound
 
 pub demand2 : Demand2
-demand2 = record { cycles = cycled; fresh = λ F a. fresh-state-formed (project_of F) (taken F (accepted F a)).sound }
+demand2 = record { cycles = cycled; fresh = λ F a. fresh_state_formed (project_of F) (taken F (accepted F a)).sound }

@@ -14,11 +14,11 @@ use Rattle.project.specs.Project.{output_block}
 use Rattle.project.specs.Project.{output_port, device}
 use Rattle.casefile.specs.Sound.{Sound, Shown}
 use Rattle.project.specs.Alike.{Alike}
-use Rattle.project.proofs.Alike.{blocks-same, kind-same, group-same, parameters-same, link-same}
+use Rattle.project.proofs.Alike.{blocks_same, kind_same, group_same, parameters_same, link_same}
 use Rattle.casefile.specs.declared.Verdict.TheVariants.{Accepted}
 use Rattle.casefile.specs.Bodies.{project_of}
 use Rattle.casefile.specs.Refusal.{verdict}
-use Rattle.casefile.proofs.Refusals.{accepted-zero}
+use Rattle.casefile.proofs.Refusals.{accepted_zero}
 use Rattle.block.specs.Formed.{well_formed}
 use Rattle.block.specs.State.{is_error, enters_from}
 use Rattle.block.specs.Shows.{shows}
@@ -36,7 +36,7 @@ use Rattle.casefile.proofs.Accepted.{accepted}
 use Rattle.evaluator.proofs.Agree.{Same, agree, reads_same, ltb_iff}
 use Rattle.wire.proofs.Packing.{packed_same, hits_same}
 use Rattle.evaluator.proofs.Checking.{Taken, taken}
-use Rattle.evaluator.proofs.Calls.{refused-rows}
+use Rattle.evaluator.proofs.Calls.{refused_rows}
 use Rattle.demands.specs.Demands.{Demand3}
 
 -- ---- blocks that are alike, beside the same groups, inputs and outputs
@@ -53,7 +53,7 @@ module _ (G I O : List ℕ) (P P' : Project) (alike : Alike P P') {n : ℕ}
   B' = P'.blocks
 
   count : block_count B ≡ block_count B'
-  count = blocks-same alike
+  count = blocks_same alike
 
   -- ---- the tests of a call
 
@@ -62,40 +62,40 @@ module _ (G I O : List ℕ) (P P' : Project) (alike : Alike P P') {n : ℕ}
   unfolding sizes_ok state_length findings_length
   sizes_same L = rw count
 
-  cell-formed-same : (S : List ℕ) (b : ℕ) → cell_formed h B S b ≡ cell_formed h B' S b
+  cell_formed_same : (S : List ℕ) (b : ℕ) → cell_formed h B S b ≡ cell_formed h B' S b
   unfolding cell_formed
-  cell-formed-same S b = λ i. well_formed (kind-same alike b i) (parameters-same alike b i) (cell h S b)
+  cell_formed_same S b = λ i. well_formed (kind_same alike b i) (parameters_same alike b i) (cell h S b)
 
-  formed-same : (S : List ℕ) → state_formed G B S ≡ state_formed G B' S
+  formed_same : (S : List ℕ) → state_formed G B S ≡ state_formed G B' S
   unfolding state_formed
-  formed-same S =
+  formed_same S =
       ap (λ (t : Bool). all (head_formed S) h && t)
-      (all_same (cell_formed h B S) (cell_formed h B' S) (block_count B) (λ b _. cell-formed-same S b)
+      (all_same (cell_formed h B S) (cell_formed h B' S) (block_count B) (λ b _. cell_formed_same S b)
       ∙ ap (all (cell_formed h B' S)) count)
 
   -- ---- one cycle
 
   module _ (R S : List ℕ) where
-    erred-same : (k : ℕ) → has_error h B S k ≡ has_error h B' S k
+    erred_same : (k : ℕ) → has_error h B S k ≡ has_error h B' S k
     unfolding has_error erred_in
-    erred-same k =
+    erred_same k =
         ap not
         (all_same (λ b. not (erred_in h B S k b)) (λ b. not (erred_in h B' S k b)) (block_count B)
-        (λ b l i. not (eqb (group-same alike b i) k && is_error (cell h S b)))
+        (λ b l i. not (eqb (group_same alike b i) k && is_error (cell h S b)))
         ∙ ap (all (λ b. not (erred_in h B' S k b))) count)
 
-    new-group-same : (k : ℕ) → new_group G B R S k ≡ new_group G B' R S k
+    new_group_same : (k : ℕ) → new_group G B R S k ≡ new_group G B' R S k
     unfolding new_group
-    new-group-same k = ap (λ (t : Bool). group_from (device G) t R S k) (erred-same k)
+    new_group_same k = ap (λ (t : Bool). group_from (device G) t R S k) (erred_same k)
 
-    phase-same : (k : ℕ) → phase G B R S k ≡ phase G B' R S k
+    phase_same : (k : ℕ) → phase G B R S k ≡ phase G B' R S k
     unfolding phase
-    phase-same k = ap (λ (x : ℕ). phase_of G R x k) (new-group-same k)
+    phase_same k = ap (λ (x : ℕ). phase_of G R x k) (new_group_same k)
 
     turned_same : (ph b : ℕ) (s : List ℕ) (f : ℕ → ℕ) →
         turned_from B R ph b s f ≡ turned_from B' R ph b s f
     unfolding turned_from
-    turned_same ph b s f = rw (kind-same alike b, group-same alike b, parameters-same alike b)
+    turned_same ph b s f = rw (kind_same alike b, group_same alike b, parameters_same alike b)
 
     step_same : (b : ℕ) (s : List ℕ) (f : ℕ → ℕ) →
         turned_from B R (phase G B R S (group_of B b)) b s f
@@ -103,7 +103,7 @@ module _ (G I O : List ℕ) (P P' : Project) (alike : Alike P P') {n : ℕ}
     step_same b s f =
         turned_same (phase G B R S (group_of B b)) b s f
         ∙ ap (λ (ph : ℕ). turned_from B' R ph b s f)
-        (phase-same (group_of B b) ∙ ap (phase G B' R S) (group-same alike b))
+        (phase_same (group_of B b) ∙ ap (phase G B' R S) (group_same alike b))
 
     nets : Same (λ b. b < block_count B) (net h B R (phase G B R S)) (net h B' R (phase G B' R S)) (order_of B)
         (order_of B')
@@ -111,9 +111,9 @@ module _ (G I O : List ℕ) (P P' : Project) (alike : Alike P P') {n : ℕ}
     unfolding net wires
     nets = record {
       olds = λ b _. refl;
-      links = λ b p _. link-same alike b p;
+      links = λ b p _. link_same alike b p;
       givens = λ b p i _ _. refl;
-      shown = λ a q s _ i. shows (kind-same alike a i) (parameters-same alike a i) q s;
+      shown = λ a q s _ i. shows (kind_same alike a i) (parameters_same alike a i) q s;
       steps = λ b s f _. step_same b s f;
       closed = λ b p a q l e. g.output b p a q l e;
       before =
@@ -137,76 +137,76 @@ module _ (G I O : List ℕ) (P P' : Project) (alike : Alike P P') {n : ℕ}
         (order_of B') (cell h S) (cell h S) nets b p l (new_block G B R S) (new_block G B' R S)
         (λ a k _ _. block_same a k)
         (link_of B b p) refl
-        ∙ ap (reads (wires h B' R) (seen (order_of B') (cell h S) (new_block G B' R S) b)) (link-same alike b p))
+        ∙ ap (reads (wires h B' R) (seen (order_of B') (cell h S) (new_block G B' R S) b)) (link_same alike b p))
 
-    head-same : new_head G B R S ≡ new_head G B' R S
+    head_same : new_head G B R S ≡ new_head G B' R S
     unfolding new_head
-    head-same =
+    head_same =
         gather_same h (λ k. new_group G B R S k ∷ []) (λ k. new_group G B' R S k ∷ [])
-        (λ k _ i. new-group-same k i ∷ [])
+        (λ k _ i. new_group_same k i ∷ [])
 
-    state-same : new_state G B R S ≡ new_state G B' R S
+    state_same : new_state G B R S ≡ new_state G B' R S
     unfolding new_state
-    state-same =
-        ap₂ (λ (x y : List ℕ). x ++ y) head-same
+    state_same =
+        ap₂ (λ (x y : List ℕ). x ++ y) head_same
         (gather_same (block_count B) (new_block G B R S) (new_block G B' R S) block_same
         ∙ ap (λ (n : ℕ). gather n (new_block G B' R S)) count)
 
-    output-same : (o : ℕ) → o < output_count O → output_word G B O R S o ≡ output_word G B' O R S o
+    output_same : (o : ℕ) → o < output_count O → output_word G B O R S o ≡ output_word G B' O R S o
     unfolding output_word
-    output-same o l =
+    output_same o l =
         let a = output_block O o in
-        λ i. shows (kind-same alike a i) (parameters-same alike a i) (output_port O o) (block_same a (w.block o l) i)
+        λ i. shows (kind_same alike a i) (parameters_same alike a i) (output_port O o) (block_same a (w.block o l) i)
 
-    outputs-same : new_outputs G B O R S ≡ new_outputs G B' O R S
+    outputs_same : new_outputs G B O R S ≡ new_outputs G B' O R S
     unfolding new_outputs
-    outputs-same =
+    outputs_same =
         gather_same (output_count O) (λ o. bytes4 (output_word G B O R S o)) (λ o. bytes4 (output_word G B' O R S o))
-        (λ o l. ap bytes4 (output-same o l))
+        (λ o l. ap bytes4 (output_same o l))
 
-    enters-same : (b : ℕ) → b < block_count B → enters G B R S b ≡ enters G B' R S b
+    enters_same : (b : ℕ) → b < block_count B → enters G B R S b ≡ enters G B' R S b
     unfolding enters
-    enters-same b l = ap (enters_from (cell h S b)) (block_same b l)
+    enters_same b l = ap (enters_from (cell h S b)) (block_same b l)
 
-    finding-same : (b : ℕ) → b < block_count B → finding G B R S b ≡ finding G B' R S b
+    finding_same : (b : ℕ) → b < block_count B → finding G B R S b ≡ finding G B' R S b
     unfolding finding finding_for
-    finding-same b l = ap₂ (finding_for B b) (words_same b l) (block_same b l) ∙ by-record
+    finding_same b l = ap₂ (finding_for B b) (words_same b l) (block_same b l) ∙ by_record
       where
-        by-record : finding_for B b (words_read G B' R S b) (new_block G B' R S b)
+        by_record : finding_for B b (words_read G B' R S b) (new_block G B' R S b)
             ≡ finding_for B' b (words_read G B' R S b) (new_block G B' R S b)
-        by-record = rw (kind-same alike b, group-same alike b, parameters-same alike b)
+        by_record = rw (kind_same alike b, group_same alike b, parameters_same alike b)
 
     count_same : finding_count G B R S ≡ finding_count G B' R S
     unfolding finding_count
     count_same =
-        hits_same (block_count B) (enters G B R S) (enters G B' R S) enters-same
+        hits_same (block_count B) (enters G B R S) (enters G B' R S) enters_same
         ∙ ap (λ (n : ℕ). hits n (enters G B' R S)) count
 
-    findings-same : new_findings G B R S ≡ new_findings G B' R S
+    findings_same : new_findings G B R S ≡ new_findings G B' R S
     unfolding new_findings
-    findings-same =
+    findings_same =
         packed_same (finding_size * block_count B) (block_count B) (enters G B R S) (enters G B' R S) (finding G B R S)
-        (finding G B' R S) enters-same (λ b l _. finding-same b l)
+        (finding G B' R S) enters_same (λ b l _. finding_same b l)
         ∙ ap (λ (n : ℕ). packed (finding_size * n) n (enters G B' R S) (finding G B' R S)) count
 
   -- ---- a call
 
   rows_same : (R : List ℕ) (L : Lent) → call_rows (record { groups = G; inputs = I; blocks = B; outputs = O }) R L
       ≡ call_rows (record { groups = G; inputs = I; blocks = B'; outputs = O }) R L
-  rows_same R L = λ i. row 10 (sizes_same L i) ∷ row 11 (formed-same L.state i) ∷ row 12 (record_ok G I R) ∷ []
+  rows_same R L = λ i. row 10 (sizes_same L i) ∷ row 11 (formed_same L.state i) ∷ row 12 (record_ok G I R) ∷ []
 
-  leaves-same : (R : List ℕ) (L : Lent) (m : ℕ) →
+  leaves_same : (R : List ℕ) (L : Lent) (m : ℕ) →
       leaves m (record { groups = G; inputs = I; blocks = B; outputs = O }) R L
       ≡ leaves m (record { groups = G; inputs = I; blocks = B'; outputs = O }) R L
-  leaves-same R L zero = λ i. record {
+  leaves_same R L zero = λ i. record {
     answer = Findings (count_same R L.state i);
     lent = record {
-      state = state-same R L.state i;
-      outputs = outputs-same R L.state i;
-      findings = findings-same R L.state i;
+      state = state_same R L.state i;
+      outputs = outputs_same R L.state i;
+      findings = findings_same R L.state i;
     };
   }
-  leaves-same R L (suc m) = refl
+  leaves_same R L (suc m) = refl
 
 -- ---- two files
 
@@ -237,26 +237,26 @@ module _ (F F' : List ℕ) (ok : verdict F ≡ Accepted) (ok' : verdict F' ≡ A
   t' : Taken (with_blocks P P'.blocks)
   t' = subst Taken (sym other) (taken F' (accepted F' ok'))
 
-  refusal-same : (R : List ℕ) (L : Lent) → refusal F R L ≡ refusal F' R L
-  refusal-same R L =
-      sym (refused-rows F R L (accepted-zero F ok) P refl)
+  refusal_same : (R : List ℕ) (L : Lent) → refusal F R L ≡ refusal F' R L
+  refusal_same R L =
+      sym (refused_rows F R L (accepted_zero F ok) P refl)
       ∙ ap first (rows_same P.groups P.inputs P.outputs P P' alike t.sound t'.sound t.shown R L)
-      ∙ refused-rows F' R L (accepted-zero F' ok') (with_blocks P P'.blocks) other
+      ∙ refused_rows F' R L (accepted_zero F' ok') (with_blocks P P'.blocks) other
 
   cycle_same : (R : List ℕ) (L : Lent) → cycle_of F R L ≡ cycle_of F' R L
   unfolding cycle_of
   cycle_same R L =
-      leaves-same P.groups P.inputs P.outputs P P' alike t.sound t'.sound t.shown R L
+      leaves_same P.groups P.inputs P.outputs P P' alike t.sound t'.sound t.shown R L
       (refusal F R L)
-      ∙ ap₂ (λ (n : ℕ) (p : Project). leaves n p R L) (refusal-same R L) other
+      ∙ ap₂ (λ (n : ℕ) (p : Project). leaves n p R L) (refusal_same R L) other
 
-  run-same : (Rs : List (List ℕ)) (L : Lent) → run F Rs L ≡ run F' Rs L
+  run_same : (Rs : List (List ℕ)) (L : Lent) → run F Rs L ≡ run F' Rs L
   unfolding run
-  run-same [] L = refl
-  run-same (R ∷ Rs) L =
+  run_same [] L = refl
+  run_same (R ∷ Rs) L =
       ap₂ (λ (x : Left) (xs : List Left). x ∷ xs) (cycle_same R L)
-      (run-same Rs (cycle_of F R L).lent ∙ ap (λ (x : Left). run F' Rs x.lent) (cycle_same R L))
+      (run_same Rs (cycle_of F R L).lent ∙ ap (λ (x : Left). run F' Rs x.lent) (cycle_same R L))
 
 pub demand3 : Demand3
 unfolding Demand3
-demand3 F F' ok ok' alike = run-same F F' ok ok' alike
+demand3 F F' ok ok' alike = run_same F F' ok ok' alike

@@ -18,7 +18,7 @@ use Rattle.project.specs.Project.{output_count, record_size}
 use Rattle.casefile.specs.Bodies.{body_in, project_of, record_of}
 use Rattle.casefile.specs.declared.Verdict.TheVariants.{Accepted}
 use Rattle.casefile.specs.Refusal.{verdict}
-use Rattle.casefile.proofs.Refusals.{accepted-zero}
+use Rattle.casefile.proofs.Refusals.{accepted_zero}
 use Rattle.block.specs.State.{decode, encode, fresh_bytes, enters_from}
 use Rattle.block.specs.Formed.{arithmetic_ok, formed, well_formed}
 use Rattle.block.specs.Inputs.{first_read_of, first_read, second_read_of, second_read}
@@ -37,7 +37,7 @@ use Rattle.evaluator.specs.Cycle.{new_outputs, finding_for, enters, finding, fin
 use Rattle.evaluator.specs.Answer.{Lent, Left, lends, leaves, control_ok, input_fits, record_ok, sizes_ok, call_rows}
 use Rattle.evaluator.specs.Answer.{cycle_of}
 use Rattle.evaluator.specs.Fresh.{fresh_for}
-use Rattle.evaluator.proofs.Calls.{refused-rows, call-done}
+use Rattle.evaluator.proofs.Calls.{refused_rows, call_done}
 use Rattle.demands.specs.Listing.{listing}
 use Rattle.demands.specs.Examples.{subtraction, subtraction_record}
 use Rattle.demands.proofs.Accepted.{accepted_all}
@@ -88,7 +88,7 @@ done : (F : List ℕ) → verdict F ≡ Accepted → (R : List ℕ) (L : Lent) �
     first (call_rows (project_of F) R L) ≡ 0 →
     cycle_of F R L ≡ leaves 0 (project_of F) R L
 done F ok R L e =
-    call-done F R L (sym (refused-rows F R L (accepted-zero F ok) (project_of F) refl) ∙ e)
+    call_done F R L (sym (refused_rows F R L (accepted_zero F ok) (project_of F) refl) ∙ e)
 
 -- the cycles
 computed : (leaves 0 (project_of listing) (record_of listing 0) at_first ≡ after_first)

@@ -7,7 +7,7 @@ use Rattle.contents.specs.Contents.{body_start, body_size, body_of, follows_ok, 
 use Rattle.kind.specs.Kinds.{family_of}
 use Rattle.project.specs.Project.{row_of, group_count, input_count, block_count, parameters_in, output_count, record_size}
 use Rattle.casefile.specs.Bodies.{body_in, project_of, record_count, record_of}
-use Rattle.casefile.proofs.Refusals.{accepted-zero}
+use Rattle.casefile.proofs.Refusals.{accepted_zero}
 use Rattle.block.specs.Finding.{finding_in}
 use Rattle.evaluator.specs.State.{outputs_length, findings_length}
 use Rattle.evaluator.specs.Answer.{Lent, Left}
@@ -41,7 +41,7 @@ pub listing_end : end_of listing ≡ Ran 2 1
 unfolding end_of run_end ended
 listing_end =
     ap₂ (λ (n : ℕ) (ls : List Left). unless_refused n (ended 0 0 ls))
-    (accepted-zero listing accepted_all.0.0) called
+    (accepted_zero listing accepted_all.0.0) called
 
 computed : joined (texts_from (project_of listing).blocks 0 (after_first ∷ after_second ∷ [])) ++ last_line (Ran 2 1)
     ≡ listing_prints

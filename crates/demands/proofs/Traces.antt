@@ -7,11 +7,11 @@ use Rattle.wire.specs.Records.{gather}
 use Rattle.wire.specs.Tables.{first}
 use Rattle.project.specs.Project.{Project, row_of, group_count, record_size}
 use Rattle.project.specs.Alike.{Alike}
-use Rattle.project.proofs.Alike.{blocks-same, kind-same, parameters-same}
+use Rattle.project.proofs.Alike.{blocks_same, kind_same, parameters_same}
 use Rattle.casefile.specs.declared.Verdict.TheVariants.{Accepted}
 use Rattle.casefile.specs.Bodies.{body_g, body_i, body_t, body_in, project_of, record_count, record_of}
 use Rattle.casefile.specs.Refusal.{file_table, told, verdict, number_of}
-use Rattle.casefile.proofs.Refusals.{accepted-zero}
+use Rattle.casefile.proofs.Refusals.{accepted_zero}
 use Rattle.kind.specs.Kinds.{family_of}
 use Rattle.block.specs.State.{fresh_bytes}
 use Rattle.block.specs.declared.FindingRecord.{FindingRecord}
@@ -23,7 +23,7 @@ use Rattle.evaluator.specs.Answer.{Lent, Left, lends, refusal, leaves, cycle_of,
 use Rattle.evaluator.specs.Cycle.{finding_count}
 use Rattle.evaluator.specs.Runs.{run}
 use Rattle.evaluator.specs.Fresh.{fresh_for}
-use Rattle.evaluator.proofs.Calls.{refused-file, call-refused}
+use Rattle.evaluator.proofs.Calls.{refused_file, call_refused}
 use Rattle.report.specs.Lines.{finding_line, refused_line}
 use Rattle.tracer.specs.declared.End.{End}
 use Rattle.tracer.specs.declared.End.TheVariants.{Refused as Halted}
@@ -49,31 +49,31 @@ module _ (F : List ℕ) where
   end_by (Findings k) lines e rest h = h k
   end_by (Refused m) lines e rest h = refl
 
-  text-by : (a : Answer) (lines : ℕ → List ℕ) (ts : List (List ℕ)) (rest : ℕ → Printout) →
+  text_by : (a : Answer) (lines : ℕ → List ℕ) (ts : List (List ℕ)) (rest : ℕ → Printout) →
       ((k : ℕ) → joined ts ≡ (rest k).text) →
       joined (goes_on a (λ _. []) (λ k. lines k ∷ ts)) ≡ (goes_on a stops (λ k. goes (lines k) (rest k))).text
   unfolding joined
-  text-by (Findings k) lines ts rest h = ap (λ (t : List ℕ). lines k ++ t) (h k)
-  text-by (Refused m) lines ts rest h = refl
+  text_by (Findings k) lines ts rest h = ap (λ (t : List ℕ). lines k ++ t) (h k)
+  text_by (Refused m) lines ts rest h = refl
 
-  over-end : (Rs : List (List ℕ)) (L : Lent) (c n : ℕ) → ended c n (run F Rs L) ≡ (trace_over F Rs L c n).end
+  over_end : (Rs : List (List ℕ)) (L : Lent) (c n : ℕ) → ended c n (run F Rs L) ≡ (trace_over F Rs L c n).end
   unfolding ended run trace_over
-  over-end [] L c n = refl
-  over-end (R ∷ Rs) L c n =
+  over_end [] L c n = refl
+  over_end (R ∷ Rs) L c n =
       let l = cycle_of F R L in
       end_by l.answer (λ k. lines_of (project_of F).blocks (c + 1) k l.lent.findings)
       (λ k. ended (c + 1) (n + k) (run F Rs l.lent)) (λ k. trace_over F Rs l.lent (c + 1) (n + k))
-      (λ k. over-end Rs l.lent (c + 1) (n + k))
+      (λ k. over_end Rs l.lent (c + 1) (n + k))
 
-  over-text : (Rs : List (List ℕ)) (L : Lent) (c n : ℕ) →
+  over_text : (Rs : List (List ℕ)) (L : Lent) (c n : ℕ) →
       joined (texts_from (project_of F).blocks c (run F Rs L)) ≡ (trace_over F Rs L c n).text
   unfolding texts_from joined run trace_over
-  over-text [] L c n = refl
-  over-text (R ∷ Rs) L c n =
+  over_text [] L c n = refl
+  over_text (R ∷ Rs) L c n =
       let l = cycle_of F R L in
-      text-by l.answer (λ k. lines_of (project_of F).blocks (c + 1) k l.lent.findings)
+      text_by l.answer (λ k. lines_of (project_of F).blocks (c + 1) k l.lent.findings)
       (texts_from (project_of F).blocks (c + 1) (run F Rs l.lent))
-      (λ k. trace_over F Rs l.lent (c + 1) (n + k)) (λ k. over-text Rs l.lent (c + 1) (n + k))
+      (λ k. trace_over F Rs l.lent (c + 1) (n + k)) (λ k. over_text Rs l.lent (c + 1) (n + k))
 
   abbrev whole : Printout
   whole = trace_over F (records_from F 0 (record_count F)) (fresh_lent F) 0 0
@@ -83,8 +83,8 @@ module _ (F : List ℕ) where
   folded ok =
       let Rs = records_from F 0 (record_count F) in
       let e : end_of F ≡ whole.end =
-      ap (λ (n : ℕ). unless_refused n (run_end F)) (accepted-zero F ok) ∙ over-end Rs (fresh_lent F) 0 0 in
-      (e, ap₂ (λ (t : List ℕ) (x : End). t ++ last_line x) (over-text Rs (fresh_lent F) 0 0) e)
+      ap (λ (n : ℕ). unless_refused n (run_end F)) (accepted_zero F ok) ∙ over_end Rs (fresh_lent F) 0 0 in
+      (e, ap₂ (λ (t : List ℕ) (x : End). t ++ last_line x) (over_text Rs (fresh_lent F) 0 0) e)
 
 -- ---- a file that is turned down
 
@@ -101,7 +101,7 @@ module _ (F : List ℕ) (n : ℕ) (e : first (file_table F) ≡ suc n) where
       let R = record_of F 0 in
       let some : suc n ≢ 0 = λ z. omega (arith, z) in
       ap (λ (l : Left). texts_from (project_of F).blocks 0 (l ∷ run F (records_from F 1 m) (cycle_of F R L).lent))
-      (call-refused F R L (suc n) (sym (refused-file F R L (suc n) (sym e) some)) some)
+      (call_refused F R L (suc n) (sym (refused_file F R L (suc n) (sym e) some)) some)
 
   refused : (end_number (end_of F) ≡ suc n) × (trace_text F ≡ refused_line (suc n))
   unfolding trace_text texts calls joined
@@ -150,8 +150,8 @@ module _ {P P' : Project} (alike : Alike P P') where
   unfolding line_of
   line_same c f =
       let b = f.block in
-      let k = kind-same alike b in
-      let p = parameters-same alike b in
+      let k = kind_same alike b in
+      let p = parameters_same alike b in
       λ i. finding_line c b f.text f.diagnosis (shown_as (family_of (k i)) (k i) (p i) 0) f.first
       (shown_as (family_of (k i)) (k i) (p i) 1) f.second
 
@@ -161,19 +161,19 @@ module _ {P P' : Project} (alike : Alike P P') where
   lines_same c (suc k) D =
       ap₂ (λ (x y : List ℕ). x ++ y) (lines_same c k D) (line_same c (finding_in (row_of finding_size k D)))
 
-  texts-by : (a : Answer) (x y : ℕ → List ℕ) (xs ys : List (List ℕ)) →
+  texts_by : (a : Answer) (x y : ℕ → List ℕ) (xs ys : List (List ℕ)) →
       ((k : ℕ) → x k ≡ y k) → xs ≡ ys →
       goes_on a (λ _. []) (λ k. x k ∷ xs) ≡ goes_on a (λ _. []) (λ k. y k ∷ ys)
-  texts-by (Findings k) x y xs ys h e = ap₂ (λ (t : List ℕ) (ts : List (List ℕ)). t ∷ ts) (h k) e
-  texts-by (Refused m) x y xs ys h e = refl
+  texts_by (Findings k) x y xs ys h e = ap₂ (λ (t : List ℕ) (ts : List (List ℕ)). t ∷ ts) (h k) e
+  texts_by (Refused m) x y xs ys h e = refl
 
-  texts-same : (c : ℕ) (ls : List Left) → texts_from P.blocks c ls ≡ texts_from P'.blocks c ls
+  texts_same : (c : ℕ) (ls : List Left) → texts_from P.blocks c ls ≡ texts_from P'.blocks c ls
   unfolding texts_from
-  texts-same c [] = refl
-  texts-same c (l ∷ ls) =
-      texts-by l.answer (λ k. lines_of P.blocks (c + 1) k l.lent.findings)
+  texts_same c [] = refl
+  texts_same c (l ∷ ls) =
+      texts_by l.answer (λ k. lines_of P.blocks (c + 1) k l.lent.findings)
       (λ k. lines_of P'.blocks (c + 1) k l.lent.findings) (texts_from P.blocks (c + 1) ls)
-      (texts_from P'.blocks (c + 1) ls) (λ k. lines_same (c + 1) k l.lent.findings) (texts-same (c + 1) ls)
+      (texts_from P'.blocks (c + 1) ls) (λ k. lines_same (c + 1) k l.lent.findings) (texts_same (c + 1) ls)
 
 module _ (F F' : List ℕ) (ok : verdict F ≡ Accepted) (ok' : verdict F' ≡ Accepted)
     (alike : Alike (project_of F) (project_of F')) (same : body_in F body_t ≡ body_in F' body_t) where
@@ -189,16 +189,16 @@ module _ (F F' : List ℕ) (ok : verdict F ≡ Accepted) (ok' : verdict F' ≡ A
   unfolding record_count
   count_same = ap₂ (λ (T : List ℕ) (w : ℕ). length T / w) same size_same
 
-  records-same : (k m : ℕ) → records_from F k m ≡ records_from F' k m
+  records_same : (k m : ℕ) → records_from F k m ≡ records_from F' k m
   unfolding records_from
-  records-same k zero = refl
-  records-same k (suc m) =
-      ap₂ (λ (r : List ℕ) (rs : List (List ℕ)). r ∷ rs) (record_same k) (records-same (k + 1) m)
+  records_same k zero = refl
+  records_same k (suc m) =
+      ap₂ (λ (r : List ℕ) (rs : List (List ℕ)). r ∷ rs) (record_same k) (records_same (k + 1) m)
 
   fresh_same : fresh_lent F ≡ fresh_lent F'
   unfolding fresh_lent fresh_for findings_length
   fresh_same =
-      let n = blocks-same alike in
+      let n = blocks_same alike in
       λ i. lends
       (replicate (state_head (group_count (alike.groups i))) 0 ++ gather (n i) (λ b. fresh_bytes))
       (replicate (outputs_length (alike.outputs i)) 0) (replicate (finding_size * n i) 0)
@@ -207,17 +207,17 @@ module _ (F F' : List ℕ) (ok : verdict F ≡ Accepted) (ok' : verdict F' ≡ A
   unfolding calls Demand3
   calls_same =
       demand3 F F' ok ok' alike (records_from F 0 (record_count F)) (fresh_lent F)
-      ∙ (λ i. run F' ((records-same 0 (record_count F) ∙ ap (records_from F' 0) count_same) i) (fresh_same i))
+      ∙ (λ i. run F' ((records_same 0 (record_count F) ∙ ap (records_from F' 0) count_same) i) (fresh_same i))
 
   renumbered : (end_of F ≡ end_of F') × (trace_text F ≡ trace_text F')
   unfolding end_of run_end trace_text texts
   renumbered =
       let e : end_of F ≡ end_of F' =
       ap₂ (λ (n : ℕ) (ls : List Left). unless_refused n (ended 0 0 ls))
-      (accepted-zero F ok ∙ sym (accepted-zero F' ok')) calls_same in (
+      (accepted_zero F ok ∙ sym (accepted_zero F' ok')) calls_same in (
         e,
         ap₂ (λ (ts : List (List ℕ)) (x : End). joined ts ++ last_line x)
-            (texts-same alike 0 (calls F) ∙ ap (texts_from (project_of F').blocks 0) calls_same) e,
+            (texts_same alike 0 (calls F) ∙ ap (texts_from (project_of F').blocks 0) calls_same) e,
       )
 
 pub traces : Traces

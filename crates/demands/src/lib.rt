@@ -3,3 +3,4 @@
 // traces, by the definitions in the contracts of `casefile`, `evaluator` and `tracer`. That they speak of something is
 // computed over the files of `specs/Listing.antt` and `specs/Examples.antt`. The words of the public functions
 // (`specs/Words.antt`) stand here too, and that each function has one answer, over the contracts of all crates.
+#![tactic(auto)]

@@ -5,12 +5,12 @@ use lib.Dec.{leb}
 use Rattle.wire.specs.Places.{all}
 use Rattle.wire.specs.Tables.{first, AllKept}
 use Rattle.wire.proofs.Places.{both_left, both_right}
-use Rattle.wire.proofs.Tables.{numbered, first-zero, first-kept, first_broken}
+use Rattle.wire.proofs.Tables.{numbered, first_zero, first-kept, first_broken}
 use Rattle.project.specs.declared.Counts.{Counts}
 use Rattle.project.specs.Project.{Project, group_count, input_count, record_size, counts_in}
 use Rattle.casefile.specs.Bodies.{project_of}
 use Rattle.casefile.specs.Refusal.{file_table}
-use Rattle.casefile.proofs.Refusals.{file_numbered, number-zero}
+use Rattle.casefile.proofs.Refusals.{file_numbered, number_zero}
 use Rattle.casefile.proofs.Accepted.{accepted}
 use Rattle.evaluator.specs.declared.Answer.TheVariants.{Findings, Refused}
 use Rattle.evaluator.specs.State.{state_length, outputs_length, findings_length, state_formed}
@@ -19,7 +19,7 @@ use Rattle.evaluator.specs.Cycle.{new_state, new_outputs, new_findings, finding_
 use Rattle.evaluator.specs.Answer.{control_ok, input_fits, record_ok, Lent, lends, sizes_ok, call_rows, call_table}
 use Rattle.evaluator.specs.Answer.{refusal, leaves, cycle_of}
 use Rattle.evaluator.specs.Asks.{Admitted}
-use Rattle.evaluator.proofs.Checking.{Taken, taken, groups-counted, blocks-counted, outputs-counted}
+use Rattle.evaluator.proofs.Checking.{Taken, taken, groups_counted, blocks_counted, outputs_counted}
 
 -- a record that is one of the project's has its size
 pub sized : (G I R : List ℕ) → record_ok G I R ≡ true → length R ≡ record_size G I
@@ -35,19 +35,19 @@ sized G I R e =
 -- ---- the rows of a call, of the project P
 
 module _ (P : Project) (R : List ℕ) (L : Lent) where
-  pub rows-10 : sizes_ok P L ≡ false → first (call_rows P R L) ≡ 10
+  pub rows_10 : sizes_ok P L ≡ false → first (call_rows P R L) ≡ 10
   unfolding first
-  rows-10 a = rw a
+  rows_10 a = rw a
 
-  pub rows-11 : sizes_ok P L ≡ true → state_formed P.groups P.blocks L.state ≡ false →
+  pub rows_11 : sizes_ok P L ≡ true → state_formed P.groups P.blocks L.state ≡ false →
       first (call_rows P R L) ≡ 11
   unfolding first
-  rows-11 a b = rw (a, b)
+  rows_11 a b = rw (a, b)
 
-  pub rows-12 : sizes_ok P L ≡ true → state_formed P.groups P.blocks L.state ≡ true →
+  pub rows_12 : sizes_ok P L ≡ true → state_formed P.groups P.blocks L.state ≡ true →
       record_ok P.groups P.inputs R ≡ false → first (call_rows P R L) ≡ 12
   unfolding first
-  rows-12 a b c = rw (a, b, c)
+  rows_12 a b c = rw (a, b, c)
 
   pub rows_none : sizes_ok P L ≡ true → state_formed P.groups P.blocks L.state ≡ true →
       record_ok P.groups P.inputs R ≡ true → first (call_rows P R L) ≡ 0
@@ -72,9 +72,9 @@ admitted P R L c e t p =
       inputs = input_count P.inputs;
       sound = t.sound;
       shown = t.shown;
-      groups = groups-counted e t;
-      blocks = blocks-counted e t;
-      rows = outputs-counted e t;
+      groups = groups_counted e t;
+      blocks = blocks_counted e t;
+      rows = outputs_counted e t;
       given = sized P.groups P.inputs R p.given;
       state = eqb-true _ _ (both_left s o (both_left (s && o) d p.sizes));
       outputs = eqb-true _ _ (both_right s o (both_left (s && o) d p.sizes));
@@ -86,64 +86,64 @@ admitted P R L c e t p =
 
 module _ (F R : List ℕ) (L : Lent) where
   -- a file that is turned down turns the call down
-  pub refused-file : (n : ℕ) → n ≡ first (file_table F) → n ≢ 0 → n ≡ refusal F R L
+  pub refused_file : (n : ℕ) → n ≡ first (file_table F) → n ≢ 0 → n ≡ refusal F R L
   unfolding refusal call_table
-  refused-file n e k =
+  refused_file n e k =
       e ∙ sym (first_broken (file_table F) (call_rows (project_of F) R L) (λ z. k (e ∙ z)))
 
   -- of an accepted one, P is the project
-  pub refused-rows : first (file_table F) ≡ 0 → (P : Project) → P ≡ project_of F →
+  pub refused_rows : first (file_table F) ≡ 0 → (P : Project) → P ≡ project_of F →
       first (call_rows P R L) ≡ refusal F R L
   unfolding refusal call_table
-  refused-rows z P e =
+  refused_rows z P e =
       ap (λ (p : Project). first (call_rows p R L)) e
-      ∙ sym (first-kept (file_table F) (call_rows (project_of F) R L) ((first-zero (file_table F) (file_numbered F)).0 z))
+      ∙ sym (first-kept (file_table F) (call_rows (project_of F) R L) ((first_zero (file_table F) (file_numbered F)).0 z))
 
   -- a call that is turned down with the number n
-  pub call-refused : (n : ℕ) → refusal F R L ≡ n → n ≢ 0 →
+  pub call_refused : (n : ℕ) → refusal F R L ≡ n → n ≢ 0 →
       cycle_of F R L ≡ record { answer = Refused n; lent = L }
   unfolding cycle_of
-  call-refused zero e k = absurd (k refl)
-  call-refused (suc n) e k = rw e
+  call_refused zero e k = absurd (k refl)
+  call_refused (suc n) e k = rw e
 
   module _ (e : refusal F R L ≡ 0) where
-    pub call-done : cycle_of F R L ≡ leaves 0 (project_of F) R L
+    pub call_done : cycle_of F R L ≡ leaves 0 (project_of F) R L
     unfolding cycle_of
-    call-done = rw e
+    call_done = rw e
 
     -- the file is accepted
-    pub file-zero : first (file_table F) ≡ 0
+    pub file_zero : first (file_table F) ≡ 0
     unfolding refusal call_table
-    file-zero = go (ℕ_discrete (first (file_table F)) 0)
+    file_zero = go (ℕ_discrete (first (file_table F)) 0)
       where
         go : Dec (first (file_table F) ≡ 0) → first (file_table F) ≡ 0
         go (yes z) = z
         go (no k) = sym (first_broken (file_table F) (call_rows (project_of F) R L) k) ∙ e
 
-    pub call-taken : Taken (project_of F)
-    call-taken = taken F (accepted F (number-zero F file-zero))
+    pub call_taken : Taken (project_of F)
+    call_taken = taken F (accepted F (number_zero F file_zero))
 
     -- and every test was passed
-    pub call-passed : Passed (project_of F) R L
+    pub call_passed : Passed (project_of F) R L
     unfolding numbered
-    call-passed = go (rows (refused-rows file-zero (project_of F) refl ∙ e))
+    call_passed = go (rows (refused_rows file_zero (project_of F) refl ∙ e))
       where
         P : Project
         P = project_of F
 
         rows : first (call_rows P R L) ≡ 0 → AllKept (call_rows P R L)
-        rows z = (first-zero (call_rows P R L) refl).0 z
+        rows z = (first_zero (call_rows P R L) refl).0 z
 
         go : AllKept (call_rows P R L) → Passed P R L
         go h = record { sizes = h 0; state = h 1; given = h 2 }
 
   -- a call that ran the cycle over the bodies of P
-  pub call-made : (P : Project) (S O D : List ℕ) (n : ℕ) → refusal F R L ≡ 0 → P ≡ project_of F →
+  pub call_made : (P : Project) (S O D : List ℕ) (n : ℕ) → refusal F R L ≡ 0 → P ≡ project_of F →
       n ≡ finding_count P.groups P.blocks R L.state →
       S ≡ new_state P.groups P.blocks R L.state →
       O ≡ new_outputs P.groups P.blocks P.outputs R L.state →
       D ≡ new_findings P.groups P.blocks R L.state →
       cycle_of F R L ≡ record { answer = Findings n; lent = lends S O D }
-  call-made P S O D n e p c s o d =
-      call-done e ∙ sym (ap (λ (q : Project). leaves 0 q R L) p)
+  call_made P S O D n e p c s o d =
+      call_done e ∙ sym (ap (λ (q : Project). leaves 0 q R L) p)
       ∙ sym (λ i. record { answer = Findings (c i); lent = lends (s i) (o i) (d i) })

@@ -15,7 +15,7 @@ use Rattle.project.specs.declared.Counts.{Counts}
 use Rattle.casefile.specs.Sound.{Sound}
 use Rattle.project.specs.Project.{block_count, block_size, device, group_count, head_size, kind_of, order_of, output_block}
 use Rattle.project.specs.Project.{output_count, output_port, parameters_of, word_size}
-use Rattle.casefile.proofs.Execution.{block-at-is, block-at-lt}
+use Rattle.casefile.proofs.Execution.{block_at-is, block_at_lt}
 use Rattle.block.specs.Finding.{finding_size}
 use Rattle.block.specs.State.{state_size}
 use Rattle.block.specs.Formed.{well_formed}
@@ -29,8 +29,8 @@ use Rattle.evaluator.specs.Groups.{control_byte, group_from, group_next, has_err
 use Rattle.evaluator.specs.Cycle.{finding_count, new_block, new_findings, new_head, new_outputs, new_state}
 use Rattle.evaluator.specs.Cycle.{output_word, port_shows}
 use Rattle.wire.specs.Packed.{hits, packed}
-use Rattle.evaluator.proofs.Cycles.{block-formed, block-length, count-new, count_none, decided_state}
-use Rattle.evaluator.proofs.Cycles.{findings-new, findings-none, group_is, head-long, state-new, all_noted}
+use Rattle.evaluator.proofs.Cycles.{block_formed, block_length, count_new, count_none, decided_state}
+use Rattle.evaluator.proofs.Cycles.{findings_new, findings_none, group_is, head_long, state_new, all_noted}
 use Rattle.evaluator.proofs.Ranking.{order_ranked}
 use Rattle.evaluator.proofs.Deciding.{row_at_is, row-length}
 
@@ -73,8 +73,8 @@ module _ {G B : List ℕ} {n h c : ℕ} (g : Sound G B n) (heads : h ≡ group_c
     groups = λ b q. omega (arith, g.group b (rw count at q), g.few_groups);
   }
 
-  orders-apart : (a b : ℕ) → a < block_count B → b < block_count B → a ≢ b → order_of B a ≢ order_of B b
-  orders-apart a b p q n x =
+  orders_apart : (a b : ℕ) → a < block_count B → b < block_count B → a ≢ b → order_of B a ≢ order_of B b
+  orders_apart a b p q n x =
       ⊎_elim (λ k. g.order_other a b k q x) (λ k. g.order_other b a k p (sym x)) (lt_or_gt a b n)
 
   pub ordered : Ordered B c
@@ -83,8 +83,8 @@ module _ {G B : List ℕ} {n h c : ℕ} (g : Sound G B n) (heads : h ≡ group_c
     long = g.long ∙ ap (λ (n : ℕ). block_size * n) (sym count);
     few = rw count g.few_blocks;
     below = λ b q. rw count (g.order_below b (rw count at q));
-    apart = λ a b p q. orders-apart a b (rw count at p) (rw count at q);
-    lands = λ e q. (rw count (block-at-lt g e (rw count at q)), block-at-is g e (rw count at q));
+    apart = λ a b p q. orders_apart a b (rw count at p) (rw count at q);
+    lands = λ e q. (rw count (block_at_lt g e (rw count at q)), block_at-is g e (rw count at q));
   }
 
   -- a block's turn
@@ -115,38 +115,38 @@ module _ {c : Counts} {G B K E R S D : List ℕ} (r : Ready c G B K E R S D) whe
   count : c.blocks ≡ block_count B
   count = t.blocks
 
-  pub few-heads : c.groups ≤ 8
-  few-heads = rw heads t.sound.few_groups
+  pub few_heads : c.groups ≤ 8
+  few_heads = rw heads t.sound.few_groups
 
-  pub heads-fit : state_head c.groups ≤ length S
+  pub heads_fit : state_head c.groups ≤ length S
   unfolding state_length
-  heads-fit = omega (arith, t.size, heads)
+  heads_fit = omega (arith, t.size, heads)
 
   -- when the groups have decided
   module _ (H S1 : List ℕ)
       (s : S1 ≡ gather c.groups (λ g. group_with E G R S g ∷ []) ++ drop (state_head c.groups) S)
       (d : Decided E G R S c.groups H) where
-    in-phases : Decided E G R S (group_count G) H
-    in-phases = subst (λ (k : ℕ). Decided E G R S k H) heads d
+    in_phases : Decided E G R S (group_count G) H
+    in_phases = subst (λ (k : ℕ). Decided E G R S k H) heads d
 
-    is-decided : S1 ≡ decided_state G B R S
+    is_decided : S1 ≡ decided_state G B R S
     unfolding new_head
-    is-decided =
+    is_decided =
         s ∙ ap (λ (k : ℕ). gather k (λ g. group_with E G R S g ∷ []) ++ drop (state_head k) S) heads
         ∙ ap (λ (x : List ℕ). x ++ drop (state_head (group_count G)) S)
         (gather_same (group_count G) (λ g. group_with E G R S g ∷ []) (λ g. new_group G B R S g ∷ [])
-        (λ g q i. group_is G B E R S H t.sound t.errors t.size t.formed in-phases g q i ∷ []))
+        (λ g q i. group_is G B E R S H t.sound t.errors t.size t.formed in_phases g q i ∷ []))
 
-    decided-long : length S1 ≡ length S
-    decided-long =
+    decided_long : length S1 ≡ length S
+    decided_long =
         ap length s ∙ length-append (gather c.groups (λ g. group_with E G R S g ∷ []))
         (drop (state_head c.groups) S)
-        ∙ omega (arith, row-length c.groups (group_with E G R S), length-drop (state_head c.groups) S, heads-fit)
+        ∙ omega (arith, row-length c.groups (group_with E G R S), length-drop (state_head c.groups) S, heads_fit)
 
     pub running : Running c.groups B R H K S1 D c.blocks
     unfolding findings_length
     running = record {
-      standing = standing t.sound heads count S1 (decided-long ∙ t.size);
+      standing = standing t.sound heads count S1 (decided_long ∙ t.size);
       count = count;
       due = λ b k. due t.sound heads count R H b r.given d.long (rw count at k);
       below = o.below;
@@ -161,84 +161,84 @@ module _ {c : Counts} {G B K E R S D : List ℕ} (r : Ready c G B K E R S D) whe
         o = ordered t.sound heads count
 
     -- when the blocks have run
-    pub ran-state : (S2 : List ℕ) →
+    pub ran_state : (S2 : List ℕ) →
         S2 ≡ take (state_head c.groups) S1 ++ gather c.blocks (ran_with c.groups B R H S1) →
         S2 ≡ new_state G B R S
-    ran-state S2 e =
-        e ∙ (λ i. take (state_head (heads i)) (is-decided i)
-        ++ gather (count i) (ran_with (heads i) B R H (is-decided i)))
-        ∙ state-new G B E R S H t.sound t.errors t.size t.formed in-phases
+    ran_state S2 e =
+        e ∙ (λ i. take (state_head (heads i)) (is_decided i)
+        ++ gather (count i) (ran_with (heads i) B R H (is_decided i)))
+        ∙ state_new G B E R S H t.sound t.errors t.size t.formed in_phases
 
     module _ (D2 : List ℕ) (f : D2 ≡ gather c.blocks (slot_with c.groups B R H S1)) where
-      by-block : D2 ≡ gather (block_count B) (slot_with (group_count G) B R H (decided_state G B R S))
-      by-block = f ∙ (λ i. gather (count i) (slot_with (heads i) B R H (is-decided i)))
+      by_block : D2 ≡ gather (block_count B) (slot_with (group_count G) B R H (decided_state G B R S))
+      by_block = f ∙ (λ i. gather (count i) (slot_with (heads i) B R H (is_decided i)))
 
       pub packable : Noted D2 c.blocks
       packable =
-          subst (λ (l : List ℕ). Noted l c.blocks) (sym by-block)
-          (rw count (all_noted G B E R S H t.sound t.errors t.size t.formed in-phases))
+          subst (λ (l : List ℕ). Noted l c.blocks) (sym by_block)
+          (rw count (all_noted G B E R S H t.sound t.errors t.size t.formed in_phases))
 
-      pub all-findings : (D3 : List ℕ) → D3 ≡ packed (finding_size * c.blocks) c.blocks (is_noted D2)
+      pub all_findings : (D3 : List ℕ) → D3 ≡ packed (finding_size * c.blocks) c.blocks (is_noted D2)
           (note_in D2) → D3 ≡ new_findings G B R S
-      all-findings D3 e =
-          e ∙ (λ i. packed (finding_size * count i) (count i) (is_noted (by-block i)) (note_in (by-block i)))
-          ∙ findings-new G B E R S H t.sound t.errors t.size t.formed in-phases
+      all_findings D3 e =
+          e ∙ (λ i. packed (finding_size * count i) (count i) (is_noted (by_block i)) (note_in (by_block i)))
+          ∙ findings_new G B E R S H t.sound t.errors t.size t.formed in_phases
 
-      pub all-count : (k : ℕ) → k ≡ hits c.blocks (is_noted D2) → k ≡ finding_count G B R S
-      all-count k e =
-          e ∙ (λ i. hits (count i) (is_noted (by-block i)))
-          ∙ count-new G B E R S H t.sound t.errors t.size t.formed in-phases
+      pub all_count : (k : ℕ) → k ≡ hits c.blocks (is_noted D2) → k ≡ finding_count G B R S
+      all_count k e =
+          e ∙ (λ i. hits (count i) (is_noted (by_block i)))
+          ∙ count_new G B E R S H t.sound t.errors t.size t.formed in_phases
 
       module _ (quiet : (b : ℕ) → b < c.blocks → enters_with c.groups B R H S1 b ≡ false) where
-        none-at : (b : ℕ) → b < block_count B → enters_with (group_count G) B R H (decided_state G B R S) b ≡ false
-        none-at b k = (λ i. enters_with (sym heads i) B R H (sym is-decided i) b) ∙ quiet b (rw count k)
+        none_at : (b : ℕ) → b < block_count B → enters_with (group_count G) B R H (decided_state G B R S) b ≡ false
+        none_at b k = (λ i. enters_with (sym heads i) B R H (sym is_decided i) b) ∙ quiet b (rw count k)
 
-        pub no-findings : D2 ≡ new_findings G B R S
-        no-findings =
-            by-block ∙ findings-none G B E R S H t.sound t.errors t.size t.formed in-phases none-at
+        pub no_findings : D2 ≡ new_findings G B R S
+        no_findings =
+            by_block ∙ findings_none G B E R S H t.sound t.errors t.size t.formed in_phases none_at
 
-        pub no-count : 0 ≡ finding_count G B R S
-        no-count = count_none G B E R S H t.sound t.errors t.size t.formed in-phases none-at
+        pub no_count : 0 ≡ finding_count G B R S
+        no_count = count_none G B E R S H t.sound t.errors t.size t.formed in_phases none_at
 
 -- ---- the new state
 
 module _ {n : ℕ} (G B R S : List ℕ) (g : Sound G B n) where
   -- a block's bytes in it
-  pub new-cell : (b : ℕ) → b < block_count B → cell (group_count G) (new_state G B R S) b ≡ new_block G B R S b
+  pub new_cell : (b : ℕ) → b < block_count B → cell (group_count G) (new_state G B R S) b ≡ new_block G B R S b
   unfolding cell new_state
-  new-cell b q =
+  new_cell b q =
       slot-gather (state_head (group_count G)) state_size (block_count B) (new_head G B R S) (new_block G B R S)
-      (head-long G B R S g) (λ k p. block-length G B R S g k p) b q
+      (head_long G B R S g) (λ k p. block_length G B R S g k p) b q
 
-  pub new-long : length (new_state G B R S) ≡ state_length G B
+  pub new_long : length (new_state G B R S) ≡ state_length G B
   unfolding new_state state_length
-  new-long =
+  new_long =
       length-append (new_head G B R S) (gather (block_count B) (new_block G B R S))
-      ∙ ap₂ (λ (x y : ℕ). x + y) (head-long G B R S g)
-      (length-gather state_size (block_count B) (new_block G B R S) (λ k p. block-length G B R S g k p))
+      ∙ ap₂ (λ (x y : ℕ). x + y) (head_long G B R S g)
+      (length-gather state_size (block_count B) (new_block G B R S) (λ k p. block_length G B R S g k p))
 
   -- a group's byte in it
-  new-group : (k : ℕ) → k < group_count G → group_byte (new_state G B R S) k ≡ new_group G B R S k
+  new_group_is : (k : ℕ) → k < group_count G → group_byte (new_state G B R S) k ≡ new_group G B R S k
   unfolding new_state new_head
-  new-group k q =
+  new_group_is k q =
       ap (byte_at (new_state G B R S)) (zero-add k)
       ∙ get_or-append (new_head G B R S) (gather (block_count B) (new_block G B R S)) 0 k
-      (omega (arith, head-long G B R S g))
+      (omega (arith, head_long G B R S g))
       ∙ row_at_is (group_count G) (new_group G B R S) k q
 
   -- 01, "What the reviewer must be able to rely on": it is well formed
-  pub new-formed : state_formed G B S ≡ true → state_formed G B (new_state G B R S) ≡ true
+  pub new_formed : state_formed G B S ≡ true → state_formed G B (new_state G B R S) ≡ true
   unfolding state_formed cell_formed
-  new-formed h =
+  new_formed h =
       let heads =
       all_each (head_formed S) (group_count G)
       (both_left (all (head_formed S) (group_count G)) (all (cell_formed (group_count G) B S) (block_count B)) h)
       in
       ap₂ (λ (x y : Bool). x && y)
       (all_true (head_formed (new_state G B R S)) (group_count G)
-      (λ k q. ap group_formed (new-group k q) ∙ group_is_formed G B R S k (heads k q)))
+      (λ k q. ap group_formed (new_group_is k q) ∙ group_is_formed G B R S k (heads k q)))
       (all_true (cell_formed (group_count G) B (new_state G B R S)) (block_count B)
-      (λ b q. ap (well_formed (kind_of B b) (parameters_of B b)) (new-cell b q) ∙ block-formed G B R S g h b q))
+      (λ b q. ap (well_formed (kind_of B b) (parameters_of B b)) (new_cell b q) ∙ block_formed G B R S g h b q))
 
 -- ---- a whole call
 
@@ -246,8 +246,8 @@ module _ {c : Counts} {G B W R S O D : List ℕ} (m : Admitted c G B W R S O D) 
   pub in_place : (T : List ℕ) → length T ≡ state_length G B → Standing B T c.groups
   in_place T e = standing m.sound m.groups m.blocks T e
 
-  pub in-groups : Grouped B c.blocks
-  in-groups = grouped m.sound m.groups m.blocks
+  pub in_groups : Grouped B c.blocks
+  in_groups = grouped m.sound m.groups m.blocks
 
   pub in_order : Ordered B c.blocks
   in_order = ordered m.sound m.groups m.blocks
@@ -270,21 +270,21 @@ module _ {c : Counts} {G B W R S O D : List ℕ} (m : Admitted c G B W R S O D) 
     given = m.given;
   }
 
-  pub outputs-fit : Showing B W c.outputs
-  outputs-fit = record { count = m.rows; shown = m.shown }
+  pub outputs_fit : Showing B W c.outputs
+  outputs_fit = record { count = m.rows; shown = m.shown }
 
-  pub outputs-long : length O ≡ word_size * c.outputs
+  pub outputs_long : length O ≡ word_size * c.outputs
   unfolding outputs_length
-  outputs-long = m.outputs ∙ ap (λ (k : ℕ). word_size * k) (sym m.rows)
+  outputs_long = m.outputs ∙ ap (λ (k : ℕ). word_size * k) (sym m.rows)
 
   -- the words that the new state shows are those of the cycle
-  pub shown-new : (T P : List ℕ) → T ≡ new_state G B R S →
+  pub shown_new : (T P : List ℕ) → T ≡ new_state G B R S →
       P ≡ gather c.outputs (λ o. bytes4 (output_shown c.groups B W T o)) → P ≡ new_outputs G B W R S
   unfolding new_outputs output_word output_shown
-  shown-new T P t p =
+  shown_new T P t p =
       p ∙ (λ i. gather (m.rows i) (λ o. bytes4 (output_shown (m.groups i) B W (t i) o)))
       ∙ gather_same (output_count W) (λ o. bytes4 (output_shown (group_count G) B W (new_state G B R S) o))
       (λ o. bytes4 (output_word G B W R S o))
       (λ o q.
       ap (λ (s : List ℕ). bytes4 (port_shows B (output_block W o) (output_port W o) s))
-      (new-cell G B R S m.sound (output_block W o) (m.shown.block o q)))
+      (new_cell G B R S m.sound (output_block W o) (m.shown.block o q)))

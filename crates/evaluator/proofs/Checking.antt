@@ -9,7 +9,7 @@ use Rattle.project.specs.Project.{Project, row_of, device, group_count, input_si
 use Rattle.project.specs.Project.{block_count, kind_in, parameters_in, head_size, word_size, record_size, size_counted}
 use Rattle.project.specs.Project.{output_count, counts_in}
 use Rattle.casefile.specs.Sound.{Sound, Shown}
-use Rattle.project.proofs.Counted.{is-device, is-groups, is-inputs, is-blocks, is-outputs, is-size}
+use Rattle.project.proofs.Counted.{is-device, is_groups, is_inputs, is_blocks, is_outputs, is_size}
 use Rattle.casefile.specs.Bodies.{project_of}
 use Rattle.casefile.proofs.Accepted.{Good, size_is}
 use Rattle.block.specs.State.{state_size}
@@ -44,24 +44,24 @@ taken F g = record {
 
 -- and of its counts
 module _ {P : Project} {c : Counts} (e : c ≡ counts_in P) (t : Taken P) where
-  pub groups-counted : c.groups ≡ group_count P.groups
-  groups-counted = is-groups P.groups P.inputs P.blocks P.outputs e
+  pub groups_counted : c.groups ≡ group_count P.groups
+  groups_counted = is_groups P.groups P.inputs P.blocks P.outputs e
 
-  pub blocks-counted : c.blocks ≡ block_count P.blocks
-  blocks-counted = is-blocks P.groups P.inputs P.blocks P.outputs e
+  pub blocks_counted : c.blocks ≡ block_count P.blocks
+  blocks_counted = is_blocks P.groups P.inputs P.blocks P.outputs e
 
-  pub outputs-counted : c.outputs ≡ output_count P.outputs
-  outputs-counted = is-outputs P.groups P.inputs P.blocks P.outputs e
+  pub outputs_counted : c.outputs ≡ output_count P.outputs
+  outputs_counted = is_outputs P.groups P.inputs P.blocks P.outputs e
 
   pub few : Few c
   few = (
-    omega (arith, groups-counted, t.sound.few_groups),
-    (omega (arith, blocks-counted, t.sound.few_blocks), omega (arith, outputs-counted, t.shown.few)),
+    omega (arith, groups_counted, t.sound.few_groups),
+    (omega (arith, blocks_counted, t.sound.few_blocks), omega (arith, outputs_counted, t.shown.few)),
   )
 
   pub whole : Whole P.blocks c.groups c.blocks
   whole = record {
-    count = blocks-counted;
+    count = blocks_counted;
     few = t.sound.few_blocks;
     long = t.sound.long;
     few_groups = few.0;
@@ -70,36 +70,36 @@ module _ {P : Project} {c : Counts} (e : c ≡ counts_in P) (t : Taken P) where
   pub listed : Listed c P.groups P.inputs
   listed = record {
     device = is-device P.groups P.inputs P.blocks P.outputs e;
-    groups = groups-counted;
-    inputs = is-inputs P.groups P.inputs P.blocks P.outputs e;
-    size = is-size P.groups P.inputs P.blocks P.outputs e ∙ t.size;
+    groups = groups_counted;
+    inputs = is_inputs P.groups P.inputs P.blocks P.outputs e;
+    size = is_size P.groups P.inputs P.blocks P.outputs e ∙ t.size;
     few_groups = t.sound.few_groups;
     few_inputs = t.few_inputs;
     long = t.inputs;
   }
 
   -- the sizes, by the counts
-  pub state-counted : state_head c.groups + state_size * c.blocks ≡ state_length P.groups P.blocks
+  pub state_counted : state_head c.groups + state_size * c.blocks ≡ state_length P.groups P.blocks
   unfolding state_length
-  state-counted = ap₂ (λ (g b : ℕ). state_head g + state_size * b) groups-counted blocks-counted
+  state_counted = ap₂ (λ (g b : ℕ). state_head g + state_size * b) groups_counted blocks_counted
 
-  pub rows-counted : word_size * c.outputs ≡ outputs_length P.outputs
+  pub rows_counted : word_size * c.outputs ≡ outputs_length P.outputs
   unfolding outputs_length
-  rows-counted = ap (λ (n : ℕ). word_size * n) outputs-counted
+  rows_counted = ap (λ (n : ℕ). word_size * n) outputs_counted
 
-  pub notes-counted : finding_size * c.blocks ≡ findings_length P.blocks
+  pub notes_counted : finding_size * c.blocks ≡ findings_length P.blocks
   unfolding findings_length
-  notes-counted = ap (λ (n : ℕ). finding_size * n) blocks-counted
+  notes_counted = ap (λ (n : ℕ). finding_size * n) blocks_counted
 
-  pub sizes-fit : (L : Lent) →
+  pub sizes_fit : (L : Lent) →
       (eqb (length L.state) (state_head c.groups + state_size * c.blocks)
       && eqb (length L.outputs) (word_size * c.outputs))
       && eqb (length L.findings) (finding_size * c.blocks)
       ≡ sizes_ok P L
   unfolding sizes_ok
-  sizes-fit L = λ i.
-      (eqb (length L.state) (state-counted i) && eqb (length L.outputs) (rows-counted i))
-      && eqb (length L.findings) (notes-counted i)
+  sizes_fit L = λ i.
+      (eqb (length L.state) (state_counted i) && eqb (length L.outputs) (rows_counted i))
+      && eqb (length L.findings) (notes_counted i)
 
 -- ---- 11
 

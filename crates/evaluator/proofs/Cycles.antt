@@ -27,7 +27,7 @@ use Rattle.evaluator.specs.Cycle.{finding_for, finding, finding_count, new_findi
 use Rattle.evaluator.specs.Asks.{error_list, says_error, group_with, Decided, ran_with, enters_with, found_with}
 use Rattle.evaluator.specs.Asks.{slot_with, note_in, is_noted, Noted}
 use Rattle.evaluator.proofs.Agree.{agree, fixed}
-use Rattle.evaluator.proofs.Stage.{words-local}
+use Rattle.evaluator.proofs.Stage.{words_local}
 use Rattle.evaluator.proofs.Deciding.{row-length, error_at}
 use Rattle.wire.proofs.Packing.{packed_same, hits_same, packed_none, hits_none}
 use Rattle.evaluator.proofs.Running.{slot-length, turned-length, empty}
@@ -44,37 +44,37 @@ zeros_gathered w (suc n) =
 
 module _ {n : ℕ} (G B R S : List ℕ) (g : Sound G B n) where
   -- each block's step
-  pub new-stepped : (b : ℕ) → b < block_count B →
+  pub new_stepped : (b : ℕ) → b < block_count B →
       new_block G B R S b ≡ turned_from B R (phase G B R S (group_of B b)) b (cell (group_count G) S b)
       (words_read G B R S b)
   unfolding new_block ran net words_read
-  new-stepped b l =
+  new_stepped b l =
       fixed (net (group_count G) B R (phase G B R S)) (order_of B) (cell (group_count G) S) (block_count B) b
       (g.order_below b l)
 
   -- a block's bytes after a cycle are as many as before
-  pub block-length : (b : ℕ) → b < block_count B → length (new_block G B R S b) ≡ state_size
-  block-length b l = ap length (new-stepped b l) ∙ turned-length B R (phase G B R S (group_of B b)) b _ _
+  pub block_length : (b : ℕ) → b < block_count B → length (new_block G B R S b) ≡ state_size
+  block_length b l = ap length (new_stepped b l) ∙ turned-length B R (phase G B R S (group_of B b)) b _ _
 
   -- a block that was well formed is so after the cycle
-  was-formed : state_formed G B S ≡ true → (b : ℕ) → b < block_count B →
+  was_formed : state_formed G B S ≡ true → (b : ℕ) → b < block_count B →
       well_formed (kind_of B b) (parameters_of B b) (cell (group_count G) S b) ≡ true
   unfolding state_formed cell_formed
-  was-formed formed =
+  was_formed formed =
       all_each (cell_formed (group_count G) B S) (block_count B)
       (both_right (all (head_formed S) (group_count G)) (all (cell_formed (group_count G) B S) (block_count B)) formed)
 
-  pub block-formed : state_formed G B S ≡ true → (b : ℕ) → b < block_count B →
+  pub block_formed : state_formed G B S ≡ true → (b : ℕ) → b < block_count B →
       well_formed (kind_of B b) (parameters_of B b) (new_block G B R S b) ≡ true
   unfolding turned_from
-  block-formed formed b l =
-      ap (well_formed (kind_of B b) (parameters_of B b)) (new-stepped b l)
-      ∙ step_keeps (kind_of B b) (parameters_of B b) _ _ _ _ _ _ (was-formed formed b l)
+  block_formed formed b l =
+      ap (well_formed (kind_of B b) (parameters_of B b)) (new_stepped b l)
+      ∙ step_keeps (kind_of B b) (parameters_of B b) _ _ _ _ _ _ (was_formed formed b l)
 
   -- the state's head
-  pub head-long : length (new_head G B R S) ≡ state_head (group_count G)
+  pub head_long : length (new_head G B R S) ≡ state_head (group_count G)
   unfolding new_head
-  head-long = row-length (group_count G) (new_group G B R S) ∙ sym (zero-add (group_count G))
+  head_long = row-length (group_count G) (new_group G B R S) ∙ sym (zero-add (group_count G))
 
 -- the state whose group bytes are new
 abbrev pub decided_state : List ℕ → List ℕ → List ℕ → List ℕ → List ℕ
@@ -106,13 +106,13 @@ module _ {n : ℕ} (G B E R S H : List ℕ) (g : Sound G B n) (marks : E ≡ err
   cells_same b =
       slot_past (state_head h) state_size b S'
       ∙ ap (λ (t : List ℕ). take state_size (drop (state_size * b) t))
-      (drop_at (new_head G B R S) (drop (state_head h) S) (state_head h) (head-long G B R S g))
+      (drop_at (new_head G B R S) (drop (state_head h) S) (state_head h) (head_long G B R S g))
       ∙ sym (slot_past (state_head h) state_size b S)
 
   -- each block comes to the state that the definitions say
-  pub ran-new : (b : ℕ) → b < block_count B → ran_with h B R H S' b ≡ new_block G B R S b
+  pub ran_new : (b : ℕ) → b < block_count B → ran_with h B R H S' b ≡ new_block G B R S b
   unfolding ran_with ran new_block net wires
-  ran-new b l =
+  ran_new b l =
       agree (λ b. b < block_count B) (net h B R (byte_at H)) (net h B R (phase G B R S)) (order_of B) (order_of B)
       (cell h S')
       (cell h S) (record {
@@ -126,29 +126,29 @@ module _ {n : ℕ} (G B E R S H : List ℕ) (g : Sound G B n) (marks : E ≡ err
       }) (block_count B) (block_count B) b l (g.order_below b l) (g.order_below b l)
 
   -- and reads what they say
-  words-new : (b : ℕ) → b < block_count B →
+  words_new : (b : ℕ) → b < block_count B →
       words (wires h B R) (seen (order_of B) (cell h S') (ran_with h B R H S') b) b ≡ words_read G B R S b
   unfolding words_read wires
-  words-new b l =
-      words-local (wires h B R) (seen (order_of B) (cell h S') (ran_with h B R H S') b)
+  words_new b l =
+      words_local (wires h B R) (seen (order_of B) (cell h S') (ran_with h B R H S') b)
       (seen (order_of B) (cell h S) (new_block G B R S) b) b
-      (λ p a q e i. cond (ltb (order_of B a) (order_of B b)) (ran-new a (g.output b p a q l e) i) (cells_same a i))
+      (λ p a q e i. cond (ltb (order_of B a) (order_of B b)) (ran_new a (g.output b p a q l e) i) (cells_same a i))
 
-  pub enters-new : (b : ℕ) → b < block_count B → enters_with h B R H S' b ≡ enters G B R S b
+  pub enters_new : (b : ℕ) → b < block_count B → enters_with h B R H S' b ≡ enters G B R S b
   unfolding enters_with enters
-  enters-new b l = ap₂ enters_from (cells_same b) (ran-new b l)
+  enters_new b l = ap₂ enters_from (cells_same b) (ran_new b l)
 
-  found-new : (b : ℕ) → b < block_count B → found_with h B R H S' b ≡ finding G B R S b
+  found_new : (b : ℕ) → b < block_count B → found_with h B R H S' b ≡ finding G B R S b
   unfolding found_with finding
-  found-new b l = ap₂ (finding_for B b) (words-new b l) (ran-new b l)
+  found_new b l = ap₂ (finding_for B b) (words_new b l) (ran_new b l)
 
   -- the whole state
-  pub state-new : take (state_head h) S' ++ gather (block_count B) (ran_with h B R H S') ≡ new_state G B R S
+  pub state_new : take (state_head h) S' ++ gather (block_count B) (ran_with h B R H S') ≡ new_state G B R S
   unfolding new_state
-  state-new =
+  state_new =
       ap₂ (λ (x y : List ℕ). x ++ y)
-      (take_at (new_head G B R S) (drop (state_head h) S) (state_head h) (head-long G B R S g))
-      (gather_same (block_count B) (ran_with h B R H S') (new_block G B R S) ran-new)
+      (take_at (new_head G B R S) (drop (state_head h) S) (state_head h) (head_long G B R S g))
+      (gather_same (block_count B) (ran_with h B R H S') (new_block G B R S) ran_new)
 
   -- ---- the findings
 
@@ -160,65 +160,65 @@ module _ {n : ℕ} (G B E R S H : List ℕ) (g : Sound G B n) (marks : E ≡ err
   finding-told : (b : ℕ) → b < block_count B → enters G B R S b ≡ true → is_finding (finding G B R S b) ≡ true
   unfolding finding finding_for enters turned_from
   finding-told b l e =
-      let step = new-stepped G B R S g b l in
+      let step = new_stepped G B R S g b l in
       let entered = entered_error (cell h S b) (new_block G B R S b) e in
       ap (λ (s : List ℕ). is_finding (finding_for B b (words_read G B R S b) s)) step
       ∙ step_found b (group_of B b) (kind_of B b) (parameters_of B b) _ _ _ _ _ _ _ (cell h S b)
-      (was-formed G B R S g formed b l) (sym (ap is_error step) ∙ entered)
+      (was_formed G B R S g formed b l) (sym (ap is_error step) ∙ entered)
 
-  note-is : (b : ℕ) → b < block_count B → note_in notes b ≡ slot_with h B R H S' b
+  note_is : (b : ℕ) → b < block_count B → note_in notes b ≡ slot_with h B R H S' b
   unfolding row_of
-  note-is b l = gather_at finding_size (block_count B) (slot_with h B R H S') (λ k _. slot-length h B R H S' k) b l
+  note_is b l = gather_at finding_size (block_count B) (slot_with h B R H S') (λ k _. slot-length h B R H S' k) b l
 
   slot_cases : (b : ℕ) → b < block_count B → (t : Bool) → enters G B R S b ≡ t →
       is_finding (slot_with h B R H S' b) ≡ t
   unfolding slot_with
-  slot_cases b l true e = rw (enters-new b l ∙ e) (ap is_finding (found-new b l) ∙ finding-told b l e)
-  slot_cases b l false e = rw (enters-new b l ∙ e)
+  slot_cases b l true e = rw (enters_new b l ∙ e) (ap is_finding (found_new b l) ∙ finding-told b l e)
+  slot_cases b l false e = rw (enters_new b l ∙ e)
 
   noted-enters : (b : ℕ) → b < block_count B → is_noted notes b ≡ enters G B R S b
   unfolding is_noted
-  noted-enters b l = ap is_finding (note-is b l) ∙ slot_cases b l (enters G B R S b) refl
+  noted-enters b l = ap is_finding (note_is b l) ∙ slot_cases b l (enters G B R S b) refl
 
   slot-found : (b : ℕ) → b < block_count B → enters G B R S b ≡ true →
       slot_with h B R H S' b ≡ finding G B R S b
   unfolding slot_with
-  slot-found b l e = rw (enters-new b l ∙ e) (found-new b l)
+  slot-found b l e = rw (enters_new b l ∙ e) (found_new b l)
 
-  slot-empty : (b : ℕ) → b < block_count B → enters G B R S b ≡ false →
+  slot_empty : (b : ℕ) → b < block_count B → enters G B R S b ≡ false →
       slot_with h B R H S' b ≡ replicate finding_size 0
   unfolding slot_with
-  slot-empty b l e = rw (enters-new b l ∙ e)
+  slot_empty b l e = rw (enters_new b l ∙ e)
 
   -- the records of all blocks can be packed
   pub all_noted : Noted notes (block_count B)
   all_noted = record {
     long = length-gather finding_size (block_count B) (slot_with h B R H S') (λ k _. slot-length h B R H S' k);
     few = g.few_blocks;
-    empty = λ b l e. note-is b l ∙ slot-empty b l (sym (noted-enters b l) ∙ e);
+    empty = λ b l e. note_is b l ∙ slot_empty b l (sym (noted-enters b l) ∙ e);
   }
 
   -- and then are the findings
-  pub findings-new : packed (finding_size * block_count B) (block_count B) (is_noted notes) (note_in notes)
+  pub findings_new : packed (finding_size * block_count B) (block_count B) (is_noted notes) (note_in notes)
       ≡ new_findings G B R S
   unfolding new_findings
-  findings-new =
+  findings_new =
       packed_same (finding_size * block_count B) (block_count B) _ _ _ _ noted-enters
-      (λ b l e. note-is b l ∙ slot-found b l e)
+      (λ b l e. note_is b l ∙ slot-found b l e)
 
-  pub count-new : hits (block_count B) (is_noted notes) ≡ finding_count G B R S
+  pub count_new : hits (block_count B) (is_noted notes) ≡ finding_count G B R S
   unfolding finding_count
-  count-new = hits_same (block_count B) _ _ noted-enters
+  count_new = hits_same (block_count B) _ _ noted-enters
 
   -- where no block enters 4 there are none
   module _ (none : (b : ℕ) → b < block_count B → enters_with h B R H S' b ≡ false) where
     quiet : (b : ℕ) → b < block_count B → enters G B R S b ≡ false
-    quiet b l = sym (enters-new b l) ∙ none b l
+    quiet b l = sym (enters_new b l) ∙ none b l
 
-    pub findings-none : notes ≡ new_findings G B R S
+    pub findings_none : notes ≡ new_findings G B R S
     unfolding new_findings
-    findings-none =
-        gather_same (block_count B) (slot_with h B R H S') empty (λ b l. slot-empty b l (quiet b l))
+    findings_none =
+        gather_same (block_count B) (slot_with h B R H S') empty (λ b l. slot_empty b l (quiet b l))
         ∙ zeros_gathered finding_size (block_count B)
         ∙ sym (packed_none (finding_size * block_count B) (block_count B) (enters G B R S) (finding G B R S) quiet)
 

@@ -39,9 +39,9 @@ row_is n f s e h =
 
 -- ---- the groups with a block in ERROR
 
-and_true : (a : Bool) → a && true ≡ a
-and_true true = refl
-and_true false = refl
+and-true : (a : Bool) → a && true ≡ a
+and-true true = refl
+and-true false = refl
 
 and_false : (a : Bool) → a && false ≡ false
 and_false true = refl
@@ -59,9 +59,9 @@ module _ (h : ℕ) (B S : List ℕ) (g b : ℕ) where
   unfolding erred_below before
   more t e = ap not (all_more (λ b. not (erred_in h B S g b)) b) ∙ ap (λ (u : Bool). not (before && not u)) e
 
-  more-not : erred_in h B S g b ≡ false → erred_below h B S g (b + 1) ≡ erred_below h B S g b
+  more_not : erred_in h B S g b ≡ false → erred_below h B S g (b + 1) ≡ erred_below h B S g b
   unfolding erred_below before
-  more-not e = more false e ∙ ap not (and_true before)
+  more_not e = more false e ∙ ap not (and-true before)
 
   more_yes : erred_in h B S g b ≡ true → erred_below h B S g (b + 1) ≡ true
   more_yes e = more true e ∙ ap not (and_false before)
@@ -82,21 +82,21 @@ module _ (h : ℕ) (B S : List ℕ) where
   }
 
   module _ (marks : List ℕ) (b : ℕ) (m : Marked h B S marks b) where
-    pub marked-miss : is_error (cell h S b) ≡ false → Marked h B S marks (b + 1)
+    pub marked_miss : is_error (cell h S b) ≡ false → Marked h B S marks (b + 1)
     unfolding erred_in
-    marked-miss n = record {
+    marked_miss n = record {
       long = m.long;
       each = λ g l.
           m.each g l
           ∙ ap (λ (t : Bool). only_if t 1)
-          (sym (more-not h B S g b (ap (λ (t : Bool). eqb (group_of B b) g && t) n
+          (sym (more_not h B S g b (ap (λ (t : Bool). eqb (group_of B b) g && t) n
           ∙ and_false (eqb (group_of B b) g))));
     }
 
-    pub marked-hit : is_error (cell h S b) ≡ true → group_of B b < 8 →
+    pub marked_hit : is_error (cell h S b) ≡ true → group_of B b < 8 →
         Marked h B S (set marks (group_of B b) 1) (b + 1)
     unfolding erred_in
-    marked-hit e l = record {
+    marked_hit e l = record {
       long = length-set marks (group_of B b) 1 ∙ m.long;
       each = λ g q. go g q (ℕ_discrete g (group_of B b));
     }
@@ -111,12 +111,12 @@ module _ (h : ℕ) (B S : List ℕ) where
         go g q (no d) =
             get_or-set_other marks (group_of B b) g 1 0 d ∙ m.each g q
             ∙ ap (λ (t : Bool). only_if t 1)
-            (sym (more-not h B S g b
+            (sym (more_not h B S g b
             (ap (λ (t : Bool). t && is_error (cell h S b)) (ne_eqb (group_of B b) g (λ x. d (sym x))))))
 
-  pub marked-end : (marks : List ℕ) → Marked h B S marks (block_count B) → marks ≡ error_list h B S
+  pub marked_end : (marks : List ℕ) → Marked h B S marks (block_count B) → marks ≡ error_list h B S
   unfolding error_list has_error erred_below
-  marked-end marks m = row_is 8 (λ g. only_if (has_error h B S g) 1) marks m.long m.each
+  marked_end marks m = row_is 8 (λ g. only_if (has_error h B S g) 1) marks m.long m.each
 
 -- ---- the groups decide
 
@@ -152,8 +152,8 @@ next_set a g f T v q e k j m = go (ℕ_discrete j g)
     go (no x) = get_or-set_other T (a + g) (a + j) v 0 (λ y. x (omega (arith, y))) ∙ k j (omega (arith, x))
 
 module _ (E G R S₀ : List ℕ) (h : ℕ) where
-  pub deciding-start : Deciding E G R S₀ h S₀ (replicate 8 0) 0
-  deciding-start = record {
+  pub deciding_start : Deciding E G R S₀ h S₀ (replicate 8 0) 0
+  deciding_start = record {
     within = omega arith;
     long = refl;
     done = λ j l. absurd (not-suc-le-zero l);
@@ -176,10 +176,10 @@ module _ (E G R S₀ : List ℕ) (h : ℕ) where
         in
         en ∙ (λ i. group_next (pending i) ((ea ∙ ap is_err_ack ev) i) (d.left (groups_at + g) (omega arith) i))
 
-    pub deciding-turn : (new ph : ℕ) → new ≡ group_with E G R S₀ g →
+    pub deciding_turn : (new ph : ℕ) → new ≡ group_with E G R S₀ g →
         ph ≡ phase_of G R (group_with E G R S₀ g) g →
         Deciding E G R S₀ h (set S (groups_at + g) new) (set H g ph) (g + 1)
-    deciding-turn new ph en ep = record {
+    deciding_turn new ph en ep = record {
       within = omega arith;
       long = length-set S (groups_at + g) new ∙ d.long;
       done = next_set groups_at g (group_with E G R S₀) S new (omega (arith, d.long)) en d.done;
@@ -192,9 +192,9 @@ module _ (E G R S₀ : List ℕ) (h : ℕ) where
           (λ k q. ap (byte_at H) (zero-add k) ∙ d.told k q) j m;
     }
 
-  pub deciding-state : (S H : List ℕ) → state_head h ≤ length S₀ → Deciding E G R S₀ h S H h →
+  pub deciding_state : (S H : List ℕ) → state_head h ≤ length S₀ → Deciding E G R S₀ h S H h →
       S ≡ gather h (λ g. group_with E G R S₀ g ∷ []) ++ drop (state_head h) S₀
-  deciding-state S H room d =
+  deciding_state S H room d =
       ext_get_or 0 S (row ++ drop (state_head h) S₀) (d.long ∙ sym whole) (λ j l. go j l (dec_lt j h))
     where
       row : List ℕ
@@ -217,5 +217,5 @@ module _ (E G R S₀ : List ℕ) (h : ℕ) where
           ∙ sym (get_or-append-add row (drop (state_head h) S₀) (j - h) 0)
           ∙ ap (λ (k : ℕ). get_or (row ++ drop (state_head h) S₀) k 0) (omega (arith, long, back))
 
-  pub deciding-phases : (S H : List ℕ) → Deciding E G R S₀ h S H h → Decided E G R S₀ h H
-  deciding-phases S H d = record { long = d.wide; each = d.told }
+  pub deciding_phases : (S H : List ℕ) → Deciding E G R S₀ h S H h → Decided E G R S₀ h H
+  deciding_phases S H d = record { long = d.wide; each = d.told }

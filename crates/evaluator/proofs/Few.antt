@@ -11,22 +11,22 @@ use Rattle.evaluator.specs.State.{findings_length}
 use Rattle.evaluator.specs.Cycle.{enters, finding, finding_count, new_findings}
 use Rattle.evaluator.specs.Answer.{Lent, refusal, leaves, cycle_of}
 use Rattle.wire.proofs.Packing.{packed_none, hits_most, hits_zero}
-use Rattle.evaluator.proofs.Calls.{call-taken}
+use Rattle.evaluator.proofs.Calls.{call_taken}
 
 module _ (F R : List ℕ) (L : Lent) where
-  few-left : (n k : ℕ) → refusal F R L ≡ n → Findings k ≡ (leaves n (project_of F) R L).answer → k ≤ 64
+  few_left : (n k : ℕ) → refusal F R L ≡ n → Findings k ≡ (leaves n (project_of F) R L).answer → k ≤ 64
   unfolding finding_count
-  few-left zero k z e =
+  few_left zero k z e =
       let P = project_of F in
       let hit = enters P.groups P.blocks R L.state in
       let counted : k ≡ hits (block_count P.blocks) hit = cc in
-      omega (arith, hits_most (block_count P.blocks) hit, (call-taken F R L z).sound.few_blocks)
-  few-left (suc n) k z e = let never : ◌≡◌ {A = ℕ} 0 1 = cc in omega arith
+      omega (arith, hits_most (block_count P.blocks) hit, (call_taken F R L z).sound.few_blocks)
+  few_left (suc n) k z e = let never : ◌≡◌ {A = ℕ} 0 1 = cc in omega arith
 
   -- an answer that is a count
-  pub few-found : (k : ℕ) → Findings k ≡ (cycle_of F R L).answer → k ≤ 64
+  pub few_found : (k : ℕ) → Findings k ≡ (cycle_of F R L).answer → k ≤ 64
   unfolding cycle_of
-  few-found k e = few-left (refusal F R L) k refl e
+  few_found k e = few_left (refusal F R L) k refl e
 
   none_left : (n : ℕ) → Findings 0 ≡ (leaves n (project_of F) R L).answer →
       (leaves n (project_of F) R L).lent.findings ≡ replicate (findings_length (project_of F).blocks) 0

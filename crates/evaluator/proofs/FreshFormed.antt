@@ -7,7 +7,7 @@ use Rattle.wire.specs.Records.{gather}
 use Rattle.wire.specs.Tables.{row, first}
 use Rattle.wire.proofs.Places.{all_true}
 use Rattle.wire.proofs.Records.{length-gather, slot-gather}
-use Rattle.wire.proofs.Tables.{first-zero, first-kept, first_broken}
+use Rattle.wire.proofs.Tables.{first_zero, first-kept, first_broken}
 use Rattle.project.specs.Project.{Project, group_count, block_count, kind_of, parameters_of}
 use Rattle.casefile.specs.Sound.{Sound}
 use Rattle.casefile.specs.Bodies.{project_of}
@@ -32,54 +32,54 @@ module _ (P : Project) where
   abbrev zeros : List ℕ
   zeros = replicate h 0
 
-  head-long : length zeros ≡ h
-  head-long = length-replicate {A = ℕ} h 0
+  head_long : length zeros ≡ h
+  head_long = length-replicate {A = ℕ} h 0
 
-  pub fresh-length : length (fresh_for P) ≡ state_length P.groups P.blocks
+  pub fresh_length : length (fresh_for P) ≡ state_length P.groups P.blocks
   unfolding fresh_for state_length
-  fresh-length =
+  fresh_length =
       length-append zeros (gather (block_count P.blocks) (λ b. fresh_bytes))
-      ∙ ap₂ (λ (x y : ℕ). x + y) head-long
+      ∙ ap₂ (λ (x y : ℕ). x + y) head_long
       (length-gather state_size (block_count P.blocks) (λ b. fresh_bytes) (λ b _. fresh_long))
 
-  fresh-group : (g : ℕ) → g < group_count P.groups → group_byte (fresh_for P) g ≡ 0
+  fresh_group : (g : ℕ) → g < group_count P.groups → group_byte (fresh_for P) g ≡ 0
   unfolding fresh_for
-  fresh-group g l =
+  fresh_group g l =
       get_or-append zeros (gather (block_count P.blocks) (λ b. fresh_bytes)) 0 (groups_at + g)
-      (omega (arith, head-long))
+      (omega (arith, head_long))
       ∙ get_or-replicate h (groups_at + g) 0 0 (omega arith)
 
-  fresh-cell : (b : ℕ) → b < block_count P.blocks → cell (group_count P.groups) (fresh_for P) b ≡ fresh_bytes
+  fresh_cell : (b : ℕ) → b < block_count P.blocks → cell (group_count P.groups) (fresh_for P) b ≡ fresh_bytes
   unfolding fresh_for cell
-  fresh-cell b l =
-      slot-gather h state_size (block_count P.blocks) zeros (λ b. fresh_bytes) head-long (λ k _. fresh_long) b l
+  fresh_cell b l =
+      slot-gather h state_size (block_count P.blocks) zeros (λ b. fresh_bytes) head_long (λ k _. fresh_long) b l
 
   -- the theorem
-  pub fresh-state-formed : {n : ℕ} → Sound P.groups P.blocks n →
+  pub fresh_state_formed : {n : ℕ} → Sound P.groups P.blocks n →
       state_formed P.groups P.blocks (fresh_for P) ≡ true
   unfolding state_formed cell_formed
-  fresh-state-formed s =
+  fresh_state_formed s =
       let n = group_count P.groups in
       let B = P.blocks in
       ap₂ (λ (x y : Bool). x && y)
-      (all_true (head_formed (fresh_for P)) n (λ g l. ap group_formed (fresh-group g l)))
+      (all_true (head_formed (fresh_for P)) n (λ g l. ap group_formed (fresh_group g l)))
       (all_true (cell_formed n B (fresh_for P)) (block_count B)
       (λ b l.
-      ap (well_formed (kind_of B b) (parameters_of B b)) (fresh-cell b l)
+      ap (well_formed (kind_of B b) (parameters_of B b)) (fresh_cell b l)
       ∙ fresh_formed _ (kind_of B b) (parameters_of B b) (s.parameters b l)))
 
 -- ---- what `fresh` answers and leaves
 
 module _ (F S : List ℕ) where
-  fresh-not : (n : ℕ) → n ≢ 0 → n ≡ fresh_number F S → (n ≡ fresh_number F S) × (S ≡ fresh_left F S)
+  fresh_not : (n : ℕ) → n ≢ 0 → n ≡ fresh_number F S → (n ≡ fresh_number F S) × (S ≡ fresh_left F S)
   unfolding fresh_left
-  fresh-not n h e = (e, rw (← e, ne_eqb n 0 h))
+  fresh_not n h e = (e, rw (← e, ne_eqb n 0 h))
 
   -- the file is turned down
-  pub fresh-refused : (n : ℕ) → n ≡ first (file_table F) → n ≢ 0 →
+  pub fresh_refused : (n : ℕ) → n ≡ first (file_table F) → n ≢ 0 →
       (n ≡ fresh_number F S) × (S ≡ fresh_left F S)
   unfolding fresh_number fresh_table
-  fresh-refused n e h = fresh-not n h (e ∙ sym (first_broken (file_table F) _ (λ z. h (e ∙ z))))
+  fresh_refused n e h = fresh_not n h (e ∙ sym (first_broken (file_table F) _ (λ z. h (e ∙ z))))
 
   module _ (z : first (file_table F) ≡ 0) (long : ℕ)
       (sized : long ≡ state_length (project_of F).groups (project_of F).blocks) where
@@ -87,19 +87,19 @@ module _ (F S : List ℕ) where
         fresh_number F S ≡ first (row 10 t ∷ [])
     unfolding fresh_number fresh_table
     number_by t e =
-        first-kept (file_table F) _ ((first-zero (file_table F) (file_numbered F)).0 z)
+        first-kept (file_table F) _ ((first_zero (file_table F) (file_numbered F)).0 z)
         ∙ ap (λ (b : Bool). first (row 10 b ∷ [])) e
 
     -- the buffer is not of the exact size
-    pub fresh-unsized : length S ≢ long → (10 ≡ fresh_number F S) × (S ≡ fresh_left F S)
+    pub fresh_unsized : length S ≢ long → (10 ≡ fresh_number F S) × (S ≡ fresh_left F S)
     unfolding first
-    fresh-unsized h =
-        fresh-not 10 (λ z. omega arith) (sym (number_by _ (ne_eqb (length S) _ (λ q. h (q ∙ sym sized)))))
+    fresh_unsized h =
+        fresh_not 10 (λ z. omega arith) (sym (number_by _ (ne_eqb (length S) _ (λ q. h (q ∙ sym sized)))))
 
     -- it is
-    pub fresh-done : (X : List ℕ) → length S ≡ long → X ≡ fresh_for (project_of F) →
+    pub fresh_done : (X : List ℕ) → length S ≡ long → X ≡ fresh_for (project_of F) →
         (0 ≡ fresh_number F S) × (X ≡ fresh_left F S)
     unfolding first fresh_left
-    fresh-done X h e =
+    fresh_done X h e =
         let answer : 0 ≡ fresh_number F S = sym (number_by _ (eq-eqb (length S) _ (h ∙ sized))) in
         (answer, e ∙ rw (← answer))

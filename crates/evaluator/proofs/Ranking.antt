@@ -7,7 +7,7 @@ use lib.Seq.{get_or-set_same, get_or-set_other}
 use Rattle.wire.specs.Words.{byte_at}
 use Rattle.casefile.specs.Sound.{Sound}
 use Rattle.project.specs.Project.{block_count, order_of, block_at}
-use Rattle.casefile.proofs.Execution.{block-at-lt, block-at-is}
+use Rattle.casefile.proofs.Execution.{block_at_lt, block_at-is}
 use Rattle.block.specs.State.{only_if}
 use Rattle.evaluator.specs.Asks.{Ordered, Ranked, order_list}
 use Rattle.evaluator.proofs.Deciding.{row-length, row_at_is, row_is}
@@ -30,9 +30,9 @@ ranking_start B n =
     }
 
 module _ (B : List ℕ) (n : ℕ) (o : Ordered B n) where
-  pub ranking-turn : (K : List ℕ) (b e v : ℕ) → Ranking B n K b → b < n → e ≡ order_of B b →
+  pub ranking_turn : (K : List ℕ) (b e v : ℕ) → Ranking B n K b → b < n → e ≡ order_of B b →
       v ≡ b % 256 → Ranking B n (set K e v) (b + 1)
-  ranking-turn K b e v r l p q = record {
+  ranking_turn K b e v r l p q = record {
     within = omega arith;
     long = length-set K e v ∙ r.long;
     each = λ a k. go a k (ℕ_discrete a b);
@@ -51,9 +51,9 @@ module _ (B : List ℕ) (n : ℕ) (o : Ordered B n) where
           get_or-set_other K e (order_of B a) v 0 (λ x. o.apart a b (omega (arith, d)) l d (x ∙ p))
           ∙ r.each a (omega (arith, d))
 
-  pub ranking-end : (K : List ℕ) → Ranking B n K n → K ≡ order_list B
+  pub ranking_end : (K : List ℕ) → Ranking B n K n → K ≡ order_list B
   unfolding order_list
-  ranking-end K r = row_is 64 (λ e. only_if (ltb e (block_count B)) (block_at B e)) K r.long
+  ranking_end K r = row_is 64 (λ e. only_if (ltb e (block_count B)) (block_at B e)) K r.long
       (λ e l. go e l (dec_lt e n))
     where
       go : (e : ℕ) → e < 64 → Dec (e < n) → byte_at K e ≡ only_if (ltb e (block_count B)) (block_at B e)
@@ -67,7 +67,7 @@ pub order_ranked : {G B : List ℕ} {n : ℕ} → Sound G B n → Ranked B (bloc
 unfolding order_list
 order_ranked {B = B} g = record {
   long = row-length 64 (λ e. only_if (ltb e (block_count B)) (block_at B e));
-  each = λ e l. (rw (here e l) (block-at-lt g e l), ap (order_of B) (here e l) ∙ block-at-is g e l);
+  each = λ e l. (rw (here e l) (block_at_lt g e l), ap (order_of B) (here e l) ∙ block_at-is g e l);
 }
   where
     here : (e : ℕ) → e < block_count B → byte_at (order_list B) e ≡ block_at B e

@@ -26,33 +26,33 @@ record_is B b = refl
 
 module _ {B S : List ℕ} {h : ℕ} (at : Standing B S h) where
   -- block b's record and its bytes are there
-  pub record-there : (b : ℕ) → b < block_count B → block_size * b + block_size ≤ length B
-  record-there b l = omega (arith, at.long)
+  pub record_there : (b : ℕ) → b < block_count B → block_size * b + block_size ≤ length B
+  record_there b l = omega (arith, at.long)
 
-  pub cell-there : (b : ℕ) → b < block_count B → state_head h + state_size * b + state_size ≤ length S
-  cell-there b l = omega (arith, at.state)
+  pub cell_there : (b : ℕ) → b < block_count B → state_head h + state_size * b + state_size ≤ length S
+  cell_there b l = omega (arith, at.state)
 
 module _ (h : ℕ) (B R S : List ℕ) where
   -- an external input
-  pub external-word : (i x : ℕ) (T : List ℕ) → T ≡ take word_size (drop (head_size + h + word_size * i) R) →
+  pub external_word : (i x : ℕ) (T : List ℕ) → T ≡ take word_size (drop (head_size + h + word_size * i) R) →
       x ≡ le32 T 0 → x ≡ reads (wires h B R) (cell h S) (External i)
   unfolding wires input_word
-  external-word i x T t e = e ∙ ap (λ (u : List ℕ). le32 u 0) t ∙ word_within (head_size + h + word_size * i) R
+  external_word i x T t e = e ∙ ap (λ (u : List ℕ). le32 u 0) t ∙ word_within (head_size + h + word_size * i) R
 
-  pub output-word : (a q x : ℕ) → x ≡ port_shows B a q (cell h S a) →
+  pub output_word_is : (a q x : ℕ) → x ≡ port_shows B a q (cell h S a) →
       x ≡ reads (wires h B R) (cell h S) (Output a q)
   unfolding wires
-  output-word a q x e = e
+  output_word_is a q x e = e
 
 module _ (h : ℕ) (B S : List ℕ) where
   -- a port of block a; Q is the block's record, with its kind k and its parameters P, and T its bytes, as the code has
   -- them
-  pub shown-word : (a q x k : ℕ) (Q P T : List ℕ) → Q ≡ take block_size (drop (block_size * a) B) →
+  pub shown_word : (a q x k : ℕ) (Q P T : List ℕ) → Q ≡ take block_size (drop (block_size * a) B) →
       k ≡ kind_in Q →
       P ≡ parameters_in Q → T ≡ take state_size (drop (state_head h + state_size * a) S) → x ≡ shows k P q T →
       x ≡ port_shows B a q (cell h S a)
   unfolding cell slot row_of
-  shown-word a q x k Q P T r s p t v = v ∙ (λ i. shows ((s ∙ ap kind_in r) i) ((p ∙ ap parameters_in r) i) q (t i))
+  shown_word a q x k Q P T r s p t v = v ∙ (λ i. shows ((s ∙ ap kind_in r) i) ((p ∙ ap parameters_in r) i) q (t i))
 
 -- another state of the same size
 pub standing_on : {B S T : List ℕ} {h n : ℕ} → Standing B S h → length T ≡ state_head h + state_size * n →

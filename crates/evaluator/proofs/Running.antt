@@ -7,21 +7,21 @@ use lib.ListN.{get_or-replicate}
 use lib.Seq.{ext_get_or}
 use Rattle.wire.specs.Words.{byte_at}
 use Rattle.wire.specs.Records.{slot, gather}
-use Rattle.wire.proofs.Records.{apart, slot_get_or, length-slot, head-put}
+use Rattle.wire.proofs.Records.{apart, slot_get_or, length-slot, head_put}
 use Rattle.project.specs.declared.Source.TheVariants.{Output}
 use Rattle.project.specs.Project.{order_of, block_count, group_of, kind_of, parameters_of}
 use Rattle.block.specs.State.{enters_from, state_size}
 use Rattle.block.specs.Finding.{finding_size}
 use Rattle.block.proofs.Bytes.{finding-length}
-use Rattle.block.proofs.Steps.{step-length}
+use Rattle.block.proofs.Steps.{step_length}
 use Rattle.evaluator.specs.Net.{words, seen, after}
 use Rattle.evaluator.specs.State.{cell, state_head}
 use Rattle.evaluator.specs.Cycle.{wires, net, turned_from, ran, finding_for, first_of, second_of}
 use Rattle.evaluator.specs.Asks.{Running, phase_at, turned, entering, noted, ran_with, enters_with, found_with}
 use Rattle.evaluator.specs.Asks.{slot_with, words_at}
 use Rattle.evaluator.proofs.Agree.{fixed}
-use Rattle.evaluator.proofs.Stage.{stage, stage-words, stage-old, stage-turn}
-use Rattle.evaluator.proofs.Buffers.{Staged, staged-start, staged-put, staged-keep, staged-end}
+use Rattle.evaluator.proofs.Stage.{stage, stage_words, stage_old, stage_turn}
+use Rattle.evaluator.proofs.Buffers.{Staged, staged_start, staged_put, staged_keep, staged_end}
 
 -- the lengths of a finding's record and of a block's state
 pub found-length : (B : List ℕ) (b : ℕ) (f : ℕ → ℕ) (s : List ℕ) →
@@ -66,7 +66,7 @@ zeros_slot w m b l =
 pub turned-length : (B R : List ℕ) (ph b : ℕ) (s : List ℕ) (f : ℕ → ℕ) →
     length (turned_from B R ph b s f) ≡ state_size
 unfolding turned_from
-turned-length B R ph b s f = step-length (kind_of B b) (parameters_of B b) ph _ _ _ _ s
+turned-length B R ph b s f = step_length (kind_of B b) (parameters_of B b) ph _ _ _ _ s
 
 -- no finding
 abbrev pub empty : ℕ → List ℕ
@@ -98,11 +98,11 @@ module _ (h : ℕ) (B R H K S₀ D₀ : List ℕ) (n : ℕ) (r : Running h B R H
     within = omega arith;
     head = refl;
     cells =
-        staged-start (state_head h) state_size n (order_of B) (cell h S₀) (ran_with h B R H S₀) S₀
+        staged_start (state_head h) state_size n (order_of B) (cell h S₀) (ran_with h B R H S₀) S₀
         (r.standing.state ∙ ap (λ (k : ℕ). state_head h + state_size * k) (sym r.count))
         (λ b l. cell-slot S₀ b);
     notes =
-        staged-start 0 finding_size n (order_of B) empty (slot_with h B R H S₀) D₀
+        staged_start 0 finding_size n (order_of B) empty (slot_with h B R H S₀) D₀
         (ap length r.clean ∙ length-replicate {A = ℕ} (finding_size * n) 0 ∙ sym (zero-add (finding_size * n)))
         (λ b l. ap (slot 0 finding_size b) r.clean ∙ zeros_slot finding_size n b l);
     none = λ _ b l k. absurd (omega arith);
@@ -130,64 +130,64 @@ module _ (h : ℕ) (B R H K S₀ D₀ : List ℕ) (n : ℕ) (r : Running h B R H
     early : order_of B b < block_count B
     early = rw (← r.count) (r.below b l)
 
-    same-cell : cell h S b ≡ cell h S₀ b
-    same-cell =
-        stage-old (net h B R (byte_at H)) (order_of B) (cell h S₀) (block_count B) e b (cell h S) here linked inside at
+    same_cell : cell h S b ≡ cell h S₀ b
+    same_cell =
+        stage_old (net h B R (byte_at H)) (order_of B) (cell h S₀) (block_count B) e b (cell h S) here linked inside at
         early
 
-    same-words : words_at h B R S b ≡ words (wires h B R) (seen (order_of B) (cell h S₀) (ran_with h B R H S₀) b) b
+    same_words : words_at h B R S b ≡ words (wires h B R) (seen (order_of B) (cell h S₀) (ran_with h B R H S₀) b) b
     unfolding ran_with ran net
-    same-words =
-        stage-words (net h B R (byte_at H)) (order_of B) (cell h S₀) (block_count B) e b (cell h S) here linked inside at
+    same_words =
+        stage_words (net h B R (byte_at H)) (order_of B) (cell h S₀) (block_count B) e b (cell h S) here linked inside at
         early
 
     pub turned-ran : turned h B R (phase_at B H b) S b ≡ ran_with h B R H S₀ b
     unfolding turned turned_from ran_with ran net
     turned-ran =
-        stage-turn (net h B R (byte_at H)) (order_of B) (cell h S₀) (block_count B) e b (cell h S) here linked inside at
+        stage_turn (net h B R (byte_at H)) (order_of B) (cell h S₀) (block_count B) e b (cell h S) here linked inside at
         early
 
     pub entering-ran : entering h B R (phase_at B H b) S b ≡ enters_with h B R H S₀ b
     unfolding entering enters_with
-    entering-ran = ap₂ enters_from same-cell turned-ran
+    entering-ran = ap₂ enters_from same_cell turned-ran
 
     noted-ran : noted h B R (phase_at B H b) S b D
         ≡ cond (enters_with h B R H S₀ b) (sets D (finding_size * b) (found_with h B R H S₀ b)) D
     unfolding noted found_with
-    noted-ran = λ i. cond (entering-ran i) (sets D (finding_size * b) (finding_for B b (same-words i) (turned-ran i))) D
+    noted-ran = λ i. cond (entering-ran i) (sets D (finding_size * b) (finding_for B b (same_words i) (turned-ran i))) D
 
-    notes-next : (t : Bool) → enters_with h B R H S₀ b ≡ t →
+    notes_next : (t : Bool) → enters_with h B R H S₀ b ≡ t →
         Staged 0 finding_size n (order_of B) empty (slot_with h B R H S₀) (e + 1) (noted h B R (phase_at B H b) S b D)
-    notes-next true q =
+    notes_next true q =
         subst (Staged 0 finding_size n (order_of B) empty (slot_with h B R H S₀) (e + 1))
         ((λ i. sets D (zero-add (finding_size * b) i) (slot_yes h B R H S₀ b q i)) ∙ sym (noted-ran ∙ rw q))
-        (staged-put 0 finding_size n (order_of B) empty (slot_with h B R H S₀) e b D k.notes l at others
+        (staged_put 0 finding_size n (order_of B) empty (slot_with h B R H S₀) e b D k.notes l at others
         (slot-length h B R H S₀ b))
-    notes-next false q =
+    notes_next false q =
         subst (Staged 0 finding_size n (order_of B) empty (slot_with h B R H S₀) (e + 1))
         (sym (noted-ran ∙ rw q))
-        (staged-keep 0 finding_size n (order_of B) empty (slot_with h B R H S₀) e b D k.notes l at others
+        (staged_keep 0 finding_size n (order_of B) empty (slot_with h B R H S₀) e b D k.notes l at others
         (slot_not h B R H S₀ b q))
 
     -- what the loop has after the turn; `next` is whether some block has entered 4 by now
-    pub held-turn : (S' D' : List ℕ) (next : Bool) → e < n →
+    pub held_turn : (S' D' : List ℕ) (next : Bool) → e < n →
         S' ≡ sets S (state_head h + state_size * b) (turned h B R (phase_at B H b) S b) →
         D' ≡ noted h B R (phase_at B H b) S b D →
         (next ≡ false → (some ≡ false) × (entering h B R (phase_at B H b) S b ≡ false)) →
         Held h B R H S₀ n S' D' next (e + 1)
-    held-turn S' D' next i p q none = record {
+    held_turn S' D' next i p q none = record {
       within = omega arith;
       head =
-          ap (take (state_head h)) put ∙ head-put (state_head h) state_size b (ran_with h B R H S₀ b) S (ran-length b l)
+          ap (take (state_head h)) put ∙ head_put (state_head h) state_size b (ran_with h B R H S₀ b) S (ran-length b l)
           ∙ k.head;
       cells =
           subst (Staged (state_head h) state_size n (order_of B) (cell h S₀) (ran_with h B R H S₀) (e + 1)) (sym put)
-          (staged-put (state_head h) state_size n (order_of B) (cell h S₀) (ran_with h B R H S₀) e b S k.cells l at
+          (staged_put (state_head h) state_size n (order_of B) (cell h S₀) (ran_with h B R H S₀) e b S k.cells l at
           others
           (ran-length b l));
       notes =
           subst (Staged 0 finding_size n (order_of B) empty (slot_with h B R H S₀) (e + 1)) (sym q)
-          (notes-next (enters_with h B R H S₀ b) refl);
+          (notes_next (enters_with h B R H S₀ b) refl);
       none = λ z a m g. missed z a m g (ℕ_discrete a b);
     }
       where
@@ -201,16 +201,16 @@ module _ (h : ℕ) (B R H K S₀ D₀ : List ℕ) (n : ℕ) (r : Running h B R H
         missed z a m g (no d) = let other = others a m d in k.none (none z).0 a m (omega (arith, other))
 
   -- when all have run
-  pub held-state : (S D : List ℕ) (some : Bool) → Held h B R H S₀ n S D some n →
+  pub held_state : (S D : List ℕ) (some : Bool) → Held h B R H S₀ n S D some n →
       S ≡ take (state_head h) S₀ ++ gather n (ran_with h B R H S₀)
-  held-state S D some k =
-      staged-end (state_head h) state_size n (order_of B) (cell h S₀) (ran_with h B R H S₀) S k.cells r.below
+  held_state S D some k =
+      staged_end (state_head h) state_size n (order_of B) (cell h S₀) (ran_with h B R H S₀) S k.cells r.below
       ∙ ap (λ (t : List ℕ). t ++ gather n (ran_with h B R H S₀)) k.head
 
-  pub held-findings : (S D : List ℕ) (some : Bool) → Held h B R H S₀ n S D some n →
+  pub held_findings : (S D : List ℕ) (some : Bool) → Held h B R H S₀ n S D some n →
       D ≡ gather n (slot_with h B R H S₀)
-  held-findings S D some k =
-      staged-end 0 finding_size n (order_of B) empty (slot_with h B R H S₀) D k.notes r.below
+  held_findings S D some k =
+      staged_end 0 finding_size n (order_of B) empty (slot_with h B R H S₀) D k.notes r.below
 
   pub held_none : (S D : List ℕ) (some : Bool) → Held h B R H S₀ n S D some n → some ≡ false →
       (b : ℕ) → b < n → enters_with h B R H S₀ b ≡ false

@@ -10,7 +10,7 @@ use Rattle.wire.proofs.Packing.{hits_most, entries-length}
 use Rattle.project.specs.Project.{Project, block_count, word_size, output_count}
 use Rattle.casefile.specs.Bodies.{project_of}
 use Rattle.casefile.specs.Refusal.{file_table}
-use Rattle.casefile.proofs.Refusals.{number-zero}
+use Rattle.casefile.proofs.Refusals.{number_zero}
 use Rattle.casefile.proofs.Accepted.{accepted}
 use Rattle.block.specs.Finding.{finding_size}
 use Rattle.evaluator.specs.State.{state_length, outputs_length, findings_length, state_formed}
@@ -20,30 +20,30 @@ use Rattle.evaluator.specs.Answer.{record_ok, Lent, Left, sizes_ok, call_rows, r
 use Rattle.evaluator.specs.Steps.{step_answer, step_state, step_findings}
 use Rattle.evaluator.proofs.Running.{found-length}
 use Rattle.evaluator.proofs.Checking.{Taken, taken}
-use Rattle.evaluator.proofs.Checked.{new-long, new-formed}
-use Rattle.evaluator.proofs.Calls.{rows-12, rows_none, refused-rows, call-refused, call-done}
+use Rattle.evaluator.proofs.Checked.{new_long, new_formed}
+use Rattle.evaluator.proofs.Calls.{rows_12, rows_none, refused_rows, call_refused, call_done}
 
 -- ---- how long what a cycle leaves is
 
 module _ (w : ℕ) (hit : ℕ → Bool) (f : ℕ → List ℕ) (long : (b : ℕ) → length (f b) ≡ w) where
-  entries-few : (n : ℕ) → length (entries n hit f) ≤ w * n
-  entries-few n = omega (arith, entries-length w hit f n (λ b _. long b), mul-le-mul_left w (hits_most n hit))
+  entries_few : (n : ℕ) → length (entries n hit f) ≤ w * n
+  entries_few n = omega (arith, entries-length w hit f n (λ b _. long b), mul-le-mul_left w (hits_most n hit))
 
-  packed-long : (n : ℕ) → length (packed (w * n) n hit f) ≡ w * n
+  packed_long : (n : ℕ) → length (packed (w * n) n hit f) ≡ w * n
   unfolding packed
-  packed-long n =
+  packed_long n =
       let m = w * n - length (entries n hit f) in
       length-append (entries n hit f) (replicate m 0)
-      ∙ omega (arith, length-replicate {A = ℕ} m 0, entries-few n)
+      ∙ omega (arith, length-replicate {A = ℕ} m 0, entries_few n)
 
 module _ (G B R S : List ℕ) where
   pub findings_long : length (new_findings G B R S) ≡ findings_length B
   unfolding new_findings findings_length finding
-  findings_long = packed-long finding_size (enters G B R S) (finding G B R S) (λ b. found-length B b _ _) (block_count B)
+  findings_long = packed_long finding_size (enters G B R S) (finding G B R S) (λ b. found-length B b _ _) (block_count B)
 
-  pub outputs-long : (O : List ℕ) → length (new_outputs G B O R S) ≡ outputs_length O
+  pub outputs_long : (O : List ℕ) → length (new_outputs G B O R S) ≡ outputs_length O
   unfolding new_outputs outputs_length
-  outputs-long O =
+  outputs_long O =
       length-gather word_size (output_count O) (λ o. bytes4 (output_word G B O R S o)) (λ o _. refl)
 
 -- buffers of their sizes
@@ -73,27 +73,27 @@ stepped F R L z sizes formed = go (record_ok P.groups P.inputs R) refl
     P = project_of F
 
     t : Taken P
-    t = taken F (accepted F (number-zero F z))
+    t = taken F (accepted F (number_zero F z))
 
     rows : refusal F R L ≡ first (call_rows P R L)
-    rows = sym (refused-rows F R L z P refl)
+    rows = sym (refused_rows F R L z P refl)
 
     go : (b : Bool) → record_ok P.groups P.inputs R ≡ b → Stepped P R L (cycle_of F R L)
     go true e =
-        subst (Stepped P R L) (sym (call-done F R L (rows ∙ rows_none P R L sizes formed e)))
+        subst (Stepped P R L) (sym (call_done F R L (rows ∙ rows_none P R L sizes formed e)))
         (record {
           answer = rw e;
           state = rw e;
           findings = rw e;
           sizes =
-              sizes_are P (leaves 0 P R L).lent (new-long P.groups P.blocks R L.state t.sound)
-              (outputs-long P.groups P.blocks R L.state P.outputs)
+              sizes_are P (leaves 0 P R L).lent (new_long P.groups P.blocks R L.state t.sound)
+              (outputs_long P.groups P.blocks R L.state P.outputs)
               (findings_long P.groups P.blocks R L.state);
-          formed = new-formed P.groups P.blocks R L.state t.sound formed;
+          formed = new_formed P.groups P.blocks R L.state t.sound formed;
         })
     go false e =
         subst (Stepped P R L)
-        (sym (call-refused F R L 12 (rows ∙ rows-12 P R L sizes formed e) (λ x. omega (arith, x))))
+        (sym (call_refused F R L 12 (rows ∙ rows_12 P R L sizes formed e) (λ x. omega (arith, x))))
         (record {
           answer = rw e;
           state = rw e;

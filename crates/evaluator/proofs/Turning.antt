@@ -5,7 +5,7 @@ use native.Mathlib.Nat.{add-sub_cancel_left}
 use borrow.Rule.Slice.PartMut.{put_mid}
 use lib.Seq.{length-sets}
 use Rattle.wire.specs.Records.{slot}
-use Rattle.wire.proofs.Records.{slot-put-same}
+use Rattle.wire.proofs.Records.{slot_put_same}
 use Rattle.wire.proofs.Stores.{stored}
 use Rattle.kind.specs.Kinds.{family_of}
 use Rattle.kind.specs.Devices.{is_err_ack}
@@ -51,9 +51,9 @@ module _ (h : ℕ) (B R : List ℕ) (ph : ℕ) (S : List ℕ) (b : ℕ) {new : L
       stored (turned h B R ph S b) S (state_head h + state_size * b) state_size long fits T
       (t ∙ ap (sets (lent_to h S b) 0) e)
 
-  pub left-long : (T : List ℕ) → T ≡ sets (lent_to h S b) 0 new →
+  pub left_long : (T : List ℕ) → T ≡ sets (lent_to h S b) 0 new →
       let at = state_head h + state_size * b in length (put_mid at (at + state_size - at) S T) ≡ length S
-  left-long T t =
+  left_long T t =
       ap length (left_is T t) ∙ length-sets S (state_head h + state_size * b) (turned h B R ph S b)
 
   pub entering-is : (x : Bool) → x ≡ enters_from (lent_to h S b) new → x ≡ entering h B R ph S b
@@ -66,13 +66,13 @@ module _ (h : ℕ) (B R : List ℕ) (ph : ℕ) (S : List ℕ) (b : ℕ) {new : L
   unfolding cell
   cell-left S' q =
       ap (slot (state_head h) state_size b) q
-      ∙ slot-put-same (state_head h) state_size b (turned h B R ph S b) S long fits
+      ∙ slot_put_same (state_head h) state_size b (turned h B R ph S b) S long fits
 
 -- what is noted of a turn
 module _ (h : ℕ) (B R : List ℕ) (ph : ℕ) (S : List ℕ) (b : ℕ) (D : List ℕ) where
-  pub noted-not : entering h B R ph S b ≡ false → D ≡ noted h B R ph S b D
+  pub noted_not : entering h B R ph S b ≡ false → D ≡ noted h B R ph S b D
   unfolding noted
-  noted-not e = rw e
+  noted_not e = rw e
 
   pub noted-is : (f : List ℕ) → entering h B R ph S b ≡ true →
       f ≡ finding_for B b (words_at h B R S b) (turned h B R ph S b) →
@@ -86,10 +86,10 @@ module _ {h : ℕ} {B R S Q : List ℕ} {b ph : ℕ} (t : Turning h B R S Q b ph
   -- its family's step and its finding, on the two words that it reads
   module _ (x y : ℕ) (ex : x ≡ first_read (kind_in Q) (parameters_in Q) (words_of h B R S Q))
       (ey : y ≡ second_read (kind_in Q) (parameters_in Q) (words_of h B R S Q)) where
-    turned-read : (f : Family) → family_of (kind_in Q) ≡ f →
+    turned_read : (f : Family) → family_of (kind_in Q) ≡ f →
         read_bytes f (kind_in Q) (parameters_in Q) ph (elapsed R) x y (cell h S b) ≡ turned h B R ph S b
     unfolding turned turned_from wires
-    turned-read f ef =
+    turned_read f ef =
         (λ i. read_bytes (sym ef i) (kind_in Q) (parameters_in Q) ph (elapsed R) (ex i) (ey i) (cell h S b))
         ∙ ap (λ (q : List ℕ).
         read_bytes (family_of (kind_in q)) (kind_in q) (parameters_in q) ph (elapsed R)
@@ -97,20 +97,20 @@ module _ {h : ℕ} {B R S Q : List ℕ} {b ph : ℕ} (t : Turning h B R S Q b ph
         (second_read (kind_in q) (parameters_in q) (words_of h B R S q)) (cell h S b)) t.here
         ∙ sym (reads _ _ ph (is_err_ack (control_byte R (group_of B b))) (elapsed R) _ _ (cell h S b) t.asks)
 
-    pub found-read : (s : List ℕ) → finding_of b (group_in Q) (kind_in Q) x y s
+    pub found_read : (s : List ℕ) → finding_of b (group_in Q) (kind_in Q) x y s
         ≡ finding_for B b (words_at h B R S b) s
     unfolding finding_for wires
-    found-read s =
+    found_read s =
         (λ i. finding_of b (group_in Q) (kind_in Q) (ex i) (ey i) s)
         ∙ ap (λ (q : List ℕ).
         finding_of b (group_in q) (kind_in q) (first_read (kind_in q) (parameters_in q) (words_of h B R S q))
         (second_read (kind_in q) (parameters_in q) (words_of h B R S q)) s) t.here
 
   -- DECOUPLE
-  pub decouple-turned : family_of (kind_in Q) ≡ Decouple → (x : ℕ) → x ≡ bits_from (words_of h B R S Q) 8 0 →
+  pub decouple_turned : family_of (kind_in Q) ≡ Decouple → (x : ℕ) → x ≡ bits_from (words_of h B R S Q) 8 0 →
       decouple_bytes ph x ≡ turned h B R ph S b
   unfolding read_bytes first_read first_read_of second_read second_read_of
-  decouple-turned f x e = turned-read x 0 (rw f e) (rw f refl) Decouple f
+  decouple_turned f x e = turned_read x 0 (rw f e) (rw f refl) Decouple f
 
   -- TWOHAND
   module _ (f : family_of (kind_in Q) ≡ Twohand) (x : ℕ)
@@ -119,15 +119,15 @@ module _ {h : ℕ} {B R S Q : List ℕ} {b ph : ℕ} (t : Turning h B R S Q b ph
     unfolding first_read first_read_of
     hands-first = rw f e
 
-    pub hands-second : 0 ≡ second_read (kind_in Q) (parameters_in Q) (words_of h B R S Q)
+    pub hands_second : 0 ≡ second_read (kind_in Q) (parameters_in Q) (words_of h B R S Q)
     unfolding second_read second_read_of
-    hands-second = rw f refl
+    hands_second = rw f refl
 
-    pub twohand-turned : (P : List ℕ) (ms : ℕ) → P ≡ parameters_in Q → ms ≡ elapsed R →
+    pub twohand_turned : (P : List ℕ) (ms : ℕ) → P ≡ parameters_in Q → ms ≡ elapsed R →
         twohand_bytes P ph ms x (lent_to h S b) ≡ turned h B R ph S b
     unfolding read_bytes
-    twohand-turned P ms p m =
-        (λ i. twohand_bytes (p i) ph (m i) x (lent_cell h S b i)) ∙ turned-read x 0 hands-first hands-second Twohand f
+    twohand_turned P ms p m =
+        (λ i. twohand_bytes (p i) ph (m i) x (lent_cell h S b i)) ∙ turned_read x 0 hands-first hands_second Twohand f
 
   -- arithmetic
   module _ (f : family_of (kind_in Q) ≡ Arithmetic) (x y : ℕ) (ex : x ≡ words_of h B R S Q 0)
@@ -136,36 +136,36 @@ module _ {h : ℕ} {B R S Q : List ℕ} {b ph : ℕ} (t : Turning h B R S Q b ph
     unfolding first_read first_read_of
     word_first = rw f ex
 
-    pub word-second : y ≡ second_read (kind_in Q) (parameters_in Q) (words_of h B R S Q)
+    pub word_second : y ≡ second_read (kind_in Q) (parameters_in Q) (words_of h B R S Q)
     unfolding second_read second_read_of
-    word-second = rw f ey
+    word_second = rw f ey
 
-    pub arithmetic-turned : (k : ℕ) (P : List ℕ) → k ≡ kind_in Q → P ≡ parameters_in Q →
+    pub arithmetic_turned : (k : ℕ) (P : List ℕ) → k ≡ kind_in Q → P ≡ parameters_in Q →
         arithmetic_bytes k P ph x y (lent_to h S b) ≡ turned h B R ph S b
     unfolding read_bytes
-    arithmetic-turned k P q p =
+    arithmetic_turned k P q p =
         (λ i. arithmetic_bytes (q i) (p i) ph x y (lent_cell h S b i))
-        ∙ turned-read x y word_first word-second Arithmetic f
+        ∙ turned_read x y word_first word_second Arithmetic f
 
   -- a block of no kind
-  pub unknown-turned : family_of (kind_in Q) ≡ Unknown → fresh_bytes ≡ turned h B R ph S b
+  pub unknown_turned : family_of (kind_in Q) ≡ Unknown → fresh_bytes ≡ turned h B R ph S b
   unfolding read_bytes first_read first_read_of second_read second_read_of
-  unknown-turned f = turned-read 0 0 (rw f refl) (rw f refl) Unknown f
+  unknown_turned f = turned_read 0 0 (rw f refl) (rw f refl) Unknown f
 
 -- ---- a block that does not ask
 
 module _ (h : ℕ) (B R S : List ℕ) (b ph : ℕ)
     (quiet : asks_inputs ph (is_err_ack (control_byte R (group_of B b))) (cell h S b) ≡ false) where
-  pub rest-turned : (ack : Bool) → ack ≡ is_err_ack (control_byte R (group_of B b)) →
+  pub rest_turned : (ack : Bool) → ack ≡ is_err_ack (control_byte R (group_of B b)) →
       rest_bytes ph ack (lent_to h S b) ≡ turned h B R ph S b
   unfolding turned turned_from
-  rest-turned ack a =
+  rest_turned ack a =
       (λ i. rest_bytes ph (a i) (lent_cell h S b i))
       ∙ sym (rests _ _ ph (is_err_ack (control_byte R (group_of B b))) (elapsed R) _ _ (cell h S b) quiet)
 
-  pub rest-quiet : entering h B R ph S b ≡ false
+  pub rest_quiet : entering h B R ph S b ≡ false
   unfolding entering turned turned_from
-  rest-quiet =
+  rest_quiet =
       ap (enters_from (cell h S b))
       (rests _ _ ph (is_err_ack (control_byte R (group_of B b))) (elapsed R) _ _ (cell h S b) quiet)
       ∙ rest_enters ph (is_err_ack (control_byte R (group_of B b))) (cell h S b)

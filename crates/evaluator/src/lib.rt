@@ -3,6 +3,8 @@
 // a call down, writes nothing. `specs/Answer.antt` says what a call answers and leaves, `specs/Cycle.antt` what a cycle
 // is. Below these calls nobody knows the file: a project is its bodies. The module `unchecked` is for a trace, whose
 // file is checked once.
+#![tactic(auto)]
+
 ghost use Rattle.std.specs.Prelude.{◌≡◌};
 ghost use Rattle.casefile.specs.Bodies.{starts_of};
 ghost use Rattle.evaluator.specs.Answer.{lends, refusal, cycle_of};

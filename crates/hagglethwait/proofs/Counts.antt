@@ -7,7 +7,7 @@ use borrow.Author.Tests.{not-false}
 use Rattle.wire.proofs.Places.{found, both_left, both_right}
 use Rattle.casefile.specs.Bodies.{project_of}
 use Rattle.casefile.specs.Refusal.{file_table}
-use Rattle.casefile.proofs.Refusals.{number-zero}
+use Rattle.casefile.proofs.Refusals.{number_zero}
 use Rattle.casefile.proofs.Accepted.{accepted}
 use Rattle.evaluator.specs.declared.Sizes.{Sizes}
 use Rattle.evaluator.specs.State.{state_length, outputs_length, findings_length}
@@ -21,7 +21,7 @@ use Rattle.year.specs.Ledger.{month_count, ledger_number}
 use Rattle.year.specs.Bends.{sum_of, pool_of, sides_at, both_sides, largest, bend_of, bend_number}
 use Rattle.year.specs.Year.{lines_of}
 use Rattle.year.specs.Asks.{Counted}
-use Rattle.year.proofs.Taken.{taken-small, lines-counted}
+use Rattle.year.proofs.Taken.{taken_small, lines_counted}
 use Rattle.hagglethwait.specs.Calls.{state_said, outputs_said, findings_said, most_state}
 use Rattle.hagglethwait.specs.Calls.{most_output_bytes, most_finding_bytes}
 use Rattle.hagglethwait.specs.Ledgers.{most_bend}
@@ -41,7 +41,7 @@ module _ (F : List ℕ) where
   small_at : (n : ℕ) → first (file_table F) ≡ n → Small (sizes_at n (project_of F))
   unfolding state_length outputs_length findings_length
   small_at zero z =
-      let t : Taken (project_of F) = taken F (accepted F (number-zero F z)) in
+      let t : Taken (project_of F) = taken F (accepted F (number_zero F z)) in
       record {
         state = omega (arith, t.sound.few_groups, t.sound.few_blocks);
         outputs = omega (arith, t.shown.few);
@@ -59,19 +59,19 @@ module _ (F : List ℕ) where
 
 -- no month has more than 4,095 findings, nor more dismissed ones than it has findings
 pub ledger_small : (c : Closings) (F : List ℕ) → ledger_number F ≡ 0 → Counted (lines_of c F)
-ledger_small c F z = lines-counted c F (taken-small F z)
+ledger_small c F z = lines_counted c F (taken_small F z)
 
 -- the last month has no later one, and so is no bend
 module _ (L : List Line) where
-  has-later : (m : ℕ) → largest L m ≡ true → 0 < (sides_at L m).later.findings
+  has_later : (m : ℕ) → largest L m ≡ true → 0 < (sides_at L m).later.findings
   unfolding largest
-  has-later m h =
+  has_later m h =
       let s : Sides = sides_at L m in
       ltb-true 0 s.later.findings (both_right (ltb 0 s.upto.findings) _ (both_left (both_sides s) _ h))
 
-  none-later : largest L 11 ≡ true → ⊥
+  none_later : largest L 11 ≡ true → ⊥
   unfolding sides_at pool_of sum_of
-  none-later h = omega (arith, has-later 11 h)
+  none_later h = omega (arith, has_later 11 h)
 
   -- the first month whose difference is the largest
   abbrev top : ℕ
@@ -79,15 +79,15 @@ module _ (L : List Line) where
 
   not_last : top < month_count → top ≡ 11 → ⊥
   not_last l q =
-      none-later (subst (λ (m : ℕ). largest L m ≡ true) q
+      none_later (subst (λ (m : ℕ). largest L m ≡ true) q
       (not-false (largest L top) ((found (λ m. not (largest L m)) month_count).fails l)))
 
-  few-at : (t : Bool) → ltb top month_count ≡ t → bend_number (cond t (After (top + 1)) Nothing) ≤ most_bend
-  few-at true e =
+  few_at : (t : Bool) → ltb top month_count ≡ t → bend_number (cond t (After (top + 1)) Nothing) ≤ most_bend
+  few_at true e =
       let l : top < month_count = ltb-true top month_count e in
       omega (arith, l, not_last l)
-  few-at false e = omega arith
+  few_at false e = omega arith
 
-  pub bend-few : bend_number (bend_of L) ≤ most_bend
+  pub bend_few : bend_number (bend_of L) ≤ most_bend
   unfolding bend_of
-  bend-few = few-at (ltb top month_count) refl
+  bend_few = few_at (ltb top month_count) refl

@@ -8,16 +8,16 @@ use lib.Seq.{take-set-lt, take-set-le, drop-set-lt, drop-set-add}
 use Rattle.year.specs.declared.Line.{Line}
 use Rattle.year.specs.Ledger.{month_count}
 use Rattle.year.specs.Bends.{no_line, line_at}
-use Rattle.year.proofs.Filling.{Filled, fill-begin, fill_more, fill_done, is-from}
+use Rattle.year.proofs.Filling.{Filled, fill_begin, fill_more, fill_done, is-from}
 
 module _ {A : Type 0} (f : Line → A) where
   -- a half in which the months before k are there
   abbrev Half : List Line → List A → ℕ → Type 0
   Half L ys k = Filled (f no_line) (λ i. f (line_at L i)) month_count ys k
 
-  half-done : (L : List Line) (ys : List A) (k : ℕ) → length L ≡ month_count → Half L ys k →
+  half_done : (L : List Line) (ys : List A) (k : ℕ) → length L ≡ month_count → Half L ys k →
       month_count ≤ k → ys ≡ map f L
-  half-done L ys k e h l =
+  half_done L ys k e h l =
       fill_done _ _ _ _ _ h l
       ∙ sym (is-from (f no_line) (map f L) month_count _ (length-map L f ∙ e) (λ i m. get_or-map f L i no_line))
 
@@ -38,14 +38,14 @@ module _ {A : Type 0} (f : Line → A) where
     pub second : Half P (drop month_count xs) k
 
   module _ (L P : List Line) where
-    pub halves-begin : (xs : List A) → length (take month_count xs) ≡ month_count →
+    pub halves_begin : (xs : List A) → length (take month_count xs) ≡ month_count →
         length (drop month_count xs) ≡ month_count → Halves L P xs 0
-    halves-begin xs e g = record { first = fill-begin _ _ _ _ e; second = fill-begin _ _ _ _ g }
+    halves_begin xs e g = record { first = fill_begin _ _ _ _ e; second = fill_begin _ _ _ _ g }
 
     -- a month is stored in both
-    pub halves-more : (xs : List A) (k : ℕ) → Halves L P xs k → k < month_count →
+    pub halves_more : (xs : List A) (k : ℕ) → Halves L P xs k → k < month_count →
         Halves L P (set (set xs k (f (line_at L k))) (month_count + k) (f (line_at P k))) (k + 1)
-    halves-more xs k h l =
+    halves_more xs k h l =
         let v : A = f (line_at L k) in
         let w : A = f (line_at P k) in
         record {
@@ -57,8 +57,8 @@ module _ {A : Type 0} (f : Line → A) where
               (fill_more _ _ _ _ _ _ h.second l refl);
         }
 
-    pub halves-done : (xs : List A) (k : ℕ) → length L ≡ month_count → length P ≡ month_count →
+    pub halves_done : (xs : List A) (k : ℕ) → length L ≡ month_count → length P ≡ month_count →
         Halves L P xs k → month_count ≤ k → xs ≡ map f L ++ map f P
-    halves-done xs k e g h l =
+    halves_done xs k e g h l =
         sym (take-append-drop month_count xs)
-        ∙ ap₂ ◌++◌ (half-done L _ k e h.first l) (half-done P _ k g h.second l)
+        ∙ ap₂ ◌++◌ (half_done L _ k e h.first l) (half_done P _ k g h.second l)

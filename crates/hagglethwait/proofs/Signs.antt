@@ -22,11 +22,11 @@ negated_fits (suc n) l = record { sfits = omega (arith, l) }
 
 -- the number's negation as the code makes it
 module _ (n : ℕ) (l : n < 256) where
-  taken-off : pos 0 -ℤ to_z w32 n ≡ neg_ℤ (pos n)
-  taken-off = ap (λ (z : ℤ). pos 0 -ℤ z) (count_is n (omega (arith, l))) ∙ from_zero n
+  taken_off : pos 0 -ℤ to_z w32 n ≡ neg_ℤ (pos n)
+  taken_off = ap (λ (z : ℤ). pos 0 -ℤ z) (count_is n (omega (arith, l))) ∙ from_zero n
 
-  pub minus-fits : SFits w32 (pos 0 -ℤ to_z w32 n)
-  minus-fits = subst (SFits w32) (sym taken-off) (negated_fits n l)
+  pub minus_fits : SFits w32 (pos 0 -ℤ to_z w32 n)
+  minus_fits = subst (SFits w32) (sym taken_off) (negated_fits n l)
 
   pub minus_is : to_z w32 (of_z w32 (pos 0 -ℤ to_z w32 n)) ≡ neg_ℤ (pos n)
-  minus_is = to_z-of_z minus-fits ∙ taken-off
+  minus_is = to_z-of_z minus_fits ∙ taken_off

@@ -1,6 +1,8 @@
-// The product's calls for programs in other languages: a static library whose functions have C's calling convention,
-// over numbers, byte slices and arrays. A slice stands in C as two arguments, a pointer and a length, an array that is
-// lent as a pointer (`include/hagglethwait.h`). No function requires anything; refused, a call writes nothing.
+// The product's calls for programs in other languages, over numbers, byte slices and arrays. The static library
+// `hagglethwait_c` has each of them with C's calling convention. No function requires anything; refused, a call writes
+// nothing.
+#![tactic(auto)]
+
 ghost use Rattle.std.specs.Prelude.{◌≡◌};
 ghost use Rattle.casefile.specs.Refusal.{verdict, number_of};
 ghost use Rattle.evaluator.specs.Fresh.{sizes_of, sizes_number, fresh_number, fresh_left};
@@ -10,13 +12,12 @@ ghost use Rattle.hagglethwait.specs.Calls.{call_of, answer_number, state_said, o
 ghost use Rattle.hagglethwait.specs.Ledgers.{findings_left, dismissed_left, rates_left, bends_left};
 
 use evaluator::{Answer, Sizes};
-use ledgers::PLACES;
-
 mod ledgers;
 
+pub use ledgers::PLACES;
+
 // 0 for a case file, or the number with which it is turned down.
-#[unsafe(no_mangle)]
-pub extern "C" fn hagglethwait_check(file: &[u8]) -> u8
+pub fn hagglethwait_check(file: &[u8]) -> u8
     ensures { result ≡ number_of (verdict file.now) }
 {
     casefile::number_of(casefile::check(file))
@@ -24,8 +25,7 @@ pub extern "C" fn hagglethwait_check(file: &[u8]) -> u8
 
 // The sizes of the three buffers of an accepted file's cycles. Answers 0, or the number with which the file is turned
 // down.
-#[unsafe(no_mangle)]
-pub extern "C" fn hagglethwait_sizes(
+pub fn hagglethwait_sizes(
     file: &[u8],
     state: &mut u32,
     outputs: &mut u32,
@@ -56,8 +56,7 @@ pub extern "C" fn hagglethwait_sizes(
 
 // The fresh state of an accepted file, into a buffer of the exact size. Answers 0, or the number with which the call is
 // turned down.
-#[unsafe(no_mangle)]
-pub extern "C" fn hagglethwait_fresh(file: &[u8], state: &mut [u8]) -> u8
+pub fn hagglethwait_fresh(file: &[u8], state: &mut [u8]) -> u8
     ensures answered { result ≡ fresh_number file.now state.old }
     ensures left { state.new ≡ fresh_left file.now state.old }
 {
@@ -66,8 +65,7 @@ pub extern "C" fn hagglethwait_fresh(file: &[u8], state: &mut [u8]) -> u8
 
 // One cycle from the state, with the record. Answers the count of findings, 0 or more, or minus the number with which
 // the call is turned down.
-#[unsafe(no_mangle)]
-pub extern "C" fn hagglethwait_cycle(
+pub fn hagglethwait_cycle(
     file: &[u8],
     rec: &[u8],
     state: &mut [u8],
@@ -92,8 +90,7 @@ pub extern "C" fn hagglethwait_cycle(
 
 // The two tables of a ledger: findings, dismissed ones and rates month by month, those with script closings first, and
 // the bends. Answers 0, or the number with which the ledger is turned down.
-#[unsafe(no_mangle)]
-pub extern "C" fn hagglethwait_ledger(
+pub fn hagglethwait_ledger(
     file: &[u8],
     findings: &mut [u32; PLACES],
     dismissed: &mut [u32; PLACES],

@@ -30,9 +30,9 @@ zeros_more P k n =
     word_zero (byte_at P k) (byte_at P (suc k)) (byte_at P (suc (suc k))) (byte_at P (suc (suc (suc k))))
     (zeros_from P (suc (suc (suc (suc k)))) n)
 
-and_true : (z : Bool) → z && true ≡ z
-and_true true = refl
-and_true false = refl
+and-true : (z : Bool) → z && true ≡ z
+and-true true = refl
+and-true false = refl
 
 pub and_assoc : (x y z : Bool) → x && (y && z) ≡ x && y && z
 and_assoc true y z = refl
@@ -41,7 +41,7 @@ and_assoc false y z = refl
 -- four bytes, eight and twelve, as the code tests them
 pub zeros4 : (P : List ℕ) → zeros_from P 8 4 ≡ eqb (le32 P 8) 0
 unfolding zeros_from
-zeros4 P = zeros_more P 8 0 ∙ and_true (eqb (le32 P 8) 0)
+zeros4 P = zeros_more P 8 0 ∙ and-true (eqb (le32 P 8) 0)
 
 pub zeros8 : (P : List ℕ) → zeros_from P 4 8 ≡ eqb (le32 P 4) 0 && eqb (le32 P 8) 0
 zeros8 P = zeros_more P 4 4 ∙ ap (λ (z : Bool). eqb (le32 P 4) 0 && z) (zeros4 P)

@@ -6,6 +6,7 @@ ghost use Rattle.kind.specs.Devices.{device_of, is_device, group_rule, is_run, i
 use crate::{Device, EL6900, EL6910};
 
 // The device of a byte: a row for each, and one that allows nothing for a byte that is no device's.
+#[tactic(auto, unfolding(crate::specs::Devices::device_of))]
 pub fn device_of(device: u8) -> Device
     ensures { result ≡ device_of device }
 {
@@ -54,6 +55,7 @@ pub fn group_rule(device: u8, run: u8) -> bool
 }
 
 // No bit of v that the mask has not.
+#[tactic(auto, unfolding(crate::specs::Masks::is_within))]
 pub fn is_within(v: u8, mask: u8) -> bool
     ensures { result ≡ is_within v mask }
 {
@@ -61,6 +63,7 @@ pub fn is_within(v: u8, mask: u8) -> bool
 }
 
 // Some bit of v that the mask has too.
+#[tactic(auto, unfolding(crate::specs::Masks::meets))]
 fn meets(v: u8, mask: u8) -> bool
     ensures { result ≡ meets v mask }
 {

@@ -6,6 +6,7 @@ ghost use Rattle.kind.specs.Devices.{has, available};
 use crate::{ADD, DECOUPLE, DIV, Device, Family, TWOHAND};
 
 // The family of a kind.
+#[tactic(auto, unfolding(crate::specs::Kinds::family_of))]
 pub fn family_of(kind: u8) -> Family
     ensures { result ≡ family_of kind }
 {

@@ -63,6 +63,7 @@ fn zeros_at(p: &[u8], k: usize) -> bool
 }
 
 // TWOHAND: the masks and the times.
+#[tactic(auto, unfolding(crate::specs::Parameters::twohand_rule))]
 fn twohand_rule(active: u8, opened: u8, l: Limits) -> bool
     ensures { result ≡ twohand_rule active opened l }
 {
@@ -78,6 +79,7 @@ fn twohand_rule(active: u8, opened: u8, l: Limits) -> bool
 }
 
 // Arithmetic: three number types, and a rounding that only DIV has.
+#[tactic(auto, unfolding(crate::specs::Parameters::arithmetic_rule))]
 fn arithmetic_rule(kind: u8, first: u8, second: u8, output: u8, rounding: u8) -> bool
     ensures { result ≡ arithmetic_rule kind first second output rounding }
 {
@@ -89,6 +91,7 @@ fn arithmetic_rule(kind: u8, first: u8, second: u8, output: u8, rounding: u8) ->
 }
 
 // The parameters' rule of a family.
+#[tactic(auto, unfolding(crate::specs::Parameters::parameters_fit))]
 fn parameters_fit(family: Family, kind: u8, p: &[u8]) -> bool
     ensures { result ≡ parameters_fit family kind p.now }
 {
@@ -111,6 +114,7 @@ fn parameters_fit(family: Family, kind: u8, p: &[u8]) -> bool
 }
 
 // The device has the kind, and the parameters keep the kind's rule.
+#[tactic(auto, unfolding(crate::specs::Parameters::parameters_ok))]
 pub fn parameters_ok(device: u8, kind: u8, p: &[u8]) -> bool
     ensures { result ≡ parameters_ok device kind p.now }
 {

@@ -1,5 +1,7 @@
 // The ledger program: reads a ledger from standard input and tells of it (02, W4; the crate `yearbook`).
-use libc::STDIN_FILENO;
+#![tactic(auto)]
+// The number of standard input.
+const STDIN_FILENO: i32 = 0;
 
 fn main() {
     // One byte more than a ledger may have.

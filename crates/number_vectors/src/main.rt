@@ -3,10 +3,13 @@
 // types of the first input, the second and the output (0 INT16, 1 UINT16, 2 INT32, 3 UINT32), the first word and the
 // second (4 bytes each, little endian). Its line is `below`, `above`, or the resulting word in decimal, signed by the
 // output type. A vector that is broken off ends the run.
+#![tactic(auto)]
+
 ghost use Rattle.std.specs.Prelude.{◌≤◌, length};
 
-use libc::{STDIN_FILENO, STDOUT_FILENO};
+use itoa::Buffer;
 use numbers::{NumType, Op, Outcome};
+use std::io::{Read, Write};
 
 // The operation that a vector's first byte names.
 fn op_of(b: u8) -> Op {
@@ -46,10 +49,9 @@ fn sign(neg: bool, out: &mut [u8], at: usize) -> usize {
 // The line of a word of type t.
 fn number_line(t: NumType, w: u32, out: &mut [u8], at: usize) -> usize {
     let v = numbers::load(t, w);
-    let mut text = [0u8; 20];
-    let k = io::decimal(v.mag, &mut text);
+    let mut text = Buffer::new();
     let start = sign(v.neg, out, at);
-    let end = append(&text[..k], out, start);
+    let end = append(text.format(v.mag).as_bytes(), out, start);
     append(b"\n", out, end)
 }
 
@@ -80,28 +82,45 @@ fn lines(vectors: &[u8], out: &mut [u8]) -> usize {
     at
 }
 
-// Writes the first bytes of a buffer to standard output.
-fn print(out: &[u8], used: usize) {
+// Fills the buffer from the input, and answers how many bytes it has: fewer than it has room for only where the input
+// ends. A read that fails ends the input.
+fn fill(input: &mut impl Read, space: &mut [u8]) -> usize
+    ensures { result ≤ length space.new }
+{
+    let mut done = 0;
+    while done < space.len() {
+        match input.read(&mut space[done..]) {
+            Ok(n) if n > 0 => done += n,
+            _ => return done,
+        }
+    }
+    done
+}
+
+// Writes the first bytes of a buffer to the output. What the output does not take is lost.
+fn print(output: &mut impl Write, out: &[u8], used: usize) {
     if used <= out.len() {
-        io::write_all(STDOUT_FILENO, &out[0..used]);
+        let _ = output.write_all(&out[0..used]);
     }
 }
 
 // Reads up to 186 vectors, prints their lines with one write, and answers whether there may be more. A line is at most
 // 22 bytes long, so that the lines have room.
-fn some() -> bool {
+fn some(input: &mut impl Read, output: &mut impl Write) -> bool {
     let mut vectors = [0u8; 2232];
-    let n = io::read_full(STDIN_FILENO, &mut vectors);
-    let mut out = io::buffer();
+    let n = fill(input, &mut vectors);
+    let mut out = [0u8; 4096];
     let used = lines(&vectors[..n], &mut out);
-    print(&out, used);
+    print(output, &out, used);
     n == 2232
 }
 
 // Nothing says that the input ends, so the loop counts its turns down, from a number that no run uses up.
-fn main() {
+fn main(rt: HostRuntime) {
+    let mut input = rt.stdin();
+    let mut output = rt.stdout();
     let mut turns = u64::MAX;
-    while turns > 0 && some() {
+    while turns > 0 && some(&mut input, &mut output) {
         turns -= 1;
     }
 }

@@ -105,9 +105,9 @@ pub value_high : (t : NumType) {w : ℕ} → is_signed t ≡ true → 2147483648
 unfolding value
 value_high t {w} e h k = rw (e, le-leb 2147483648 w h) (sub_lt k)
 
-pub value-plain : (t : NumType) {w : ℕ} → is_signed t ≡ false → value t w ≡ pos w
+pub value_plain : (t : NumType) {w : ℕ} → is_signed t ≡ false → value t w ≡ pos w
 unfolding value
-value-plain t e = rw e
+value_plain t e = rw e
 
 -- ---- order
 

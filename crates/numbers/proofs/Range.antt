@@ -205,9 +205,9 @@ same_side a b c d p q = go (dec_le a b)
     go (yes l) = le-leb a b l ∙ sym (le-leb c d (p l))
     go (no n) = let l = lt_of_not-le n in lt-leb a b l ∙ sym (lt-leb c d (q l))
 
-and_true : (b : Bool) → b && true ≡ b
-and_true true = refl
-and_true false = refl
+and-true : (b : Bool) → b && true ≡ b
+and-true true = refl
+and-true false = refl
 
 -- The law of a type's words: counted from the word of the least number, and round 2 ^ 32, they are the first ones, as
 -- many as the type has numbers.
@@ -227,7 +227,7 @@ words_of t w h = pick (is_signed t && leb 2147483648 w) refl
     pick true e =
         let o = stands_high t w e in
         let m = 4294967296 - w in
-        rw (sub_lt h, neg_le (under t) m, neg_le_pos m (over t), and_true (leb m (under t)))
+        rw (sub_lt h, neg_le (under t) m, neg_le_pos m (over t), and-true (leb m (under t)))
         (same_side ((w + under t) % 4294967296) (under t + over t) m (under t)
         (λ k. omega (arith, under_small t)) (λ k. omega (arith, under_small t)))
 

@@ -1,6 +1,8 @@
 // Exact arithmetic of the blocks ADD, SUB, MUL and DIV over the four number types: what two stored words give in an
 // output of a type, and the diagnosis and text ID of a result that the type does not hold. A number is held as sign and
 // magnitude, so that the product of two UINT32 fits; a stored word is 32 bits, sign- or zero-extended by its type.
+#![tactic(auto)]
+
 ghost use Rattle.std.specs.Prelude.{◌≡◌, ◌^◌, ◌<◌, ◌+ℤ◌, ◌-ℤ◌, ◌*ℤ◌};
 ghost use Rattle.std.proofs.Math.IntN.{sub_ℕ};
 ghost use Rattle.numbers.specs.Types.{is_signed, under, over, value, inside, type_of, signed, z_of};
@@ -9,7 +11,7 @@ ghost use Rattle.numbers.specs.Results.{rounding_of, text_of};
 ghost use Rattle.numbers.specs.declared.Op.TheVariants.{Add, Sub, Mul, Div};
 
 // The type of an input or an output.
-#[derive(Drop)]
+#[derive(Clone, Copy)]
 pub enum NumType {
     Int16,
     Uint16,
@@ -18,7 +20,7 @@ pub enum NumType {
 }
 
 // What DIV does with a fraction.
-#[derive(Drop)]
+#[derive(Clone, Copy)]
 pub enum Rounding {
     Floor,
     Ceil,
@@ -26,7 +28,7 @@ pub enum Rounding {
 }
 
 // The four blocks.
-#[derive(Drop)]
+#[derive(Clone, Copy)]
 pub enum Op {
     Add,
     Sub,
@@ -35,7 +37,7 @@ pub enum Op {
 }
 
 // What a block's exact result is in its output: out of the type's range, or the word that stores it.
-#[derive(Drop)]
+#[derive(Clone, Copy)]
 pub enum Outcome {
     Below,
     Above,
@@ -43,7 +45,7 @@ pub enum Outcome {
 }
 
 // The whole number with this sign and magnitude.
-#[derive(Drop)]
+#[derive(Clone, Copy)]
 pub struct Signed {
     pub neg: bool,
     pub mag: u64,
@@ -305,6 +307,7 @@ pub fn compute(op: Op, ta: NumType, a: u32, tb: NumType, b: u32, t: NumType) -> 
 }
 
 // The type that a parameter byte names.
+#[tactic(auto, unfolding(crate::specs::Types::type_of))]
 pub fn type_of(b: u8) -> NumType
     ensures { result ≡ type_of b }
 {
@@ -317,6 +320,7 @@ pub fn type_of(b: u8) -> NumType
 }
 
 // The rounding that a parameter byte names.
+#[tactic(auto, unfolding(crate::specs::Results::rounding_of))]
 pub fn rounding_of(b: u8) -> Rounding
     ensures { result ≡ rounding_of b }
 {
@@ -328,6 +332,7 @@ pub fn rounding_of(b: u8) -> Rounding
 }
 
 // The text ID that a finding shows beside its diagnosis.
+#[tactic(auto, unfolding(crate::specs::Results::text_of))]
 pub fn text_of(diagnosis: u16) -> u16
     ensures { result ≡ text_of diagnosis }
 {

@@ -12,7 +12,7 @@ use Rattle.project.specs.Project.{parameter_start, parameter_count, link_start, 
 use Rattle.project.specs.Project.{source_from}
 use Rattle.project.specs.Project.{link_in, kind_of, group_of, parameters_of, link_of}
 use Rattle.project.specs.Alike.{Alike}
-use Rattle.project.proofs.Records.{row-byte}
+use Rattle.project.proofs.Records.{row_byte}
 
 -- a block's record has no link past its last
 pub past_links : (B : List ℕ) (b p : ℕ) → link_count ≤ p → link_of B b p ≡ Nothing
@@ -37,26 +37,26 @@ unfolding parameters_in
 parameter_byte R k l = get_or-take parameter_count (drop parameter_start R) k 0 l ∙ get_or-drop parameter_start R k 0
 
 module _ {P P' : Project} (alike : Alike P P') where
-  pub blocks-same : block_count P.blocks ≡ block_count P'.blocks
+  pub blocks_same : block_count P.blocks ≡ block_count P'.blocks
   unfolding block_count
-  blocks-same = ap (λ (n : ℕ). n / block_size) alike.long
+  blocks_same = ap (λ (n : ℕ). n / block_size) alike.long
 
   module _ (b : ℕ) where
-    block-byte-same : (j : ℕ) → j < block_size → j ≢ order_place →
+    block_byte_same : (j : ℕ) → j < block_size → j ≢ order_place →
         byte_at (block_record P.blocks b) j ≡ byte_at (block_record P'.blocks b) j
-    block-byte-same j l n =
-        row-byte block_size b P.blocks j l
+    block_byte_same j l n =
+        row_byte block_size b P.blocks j l
         ∙ alike.bytes (block_size * b + j) (λ a m e. omega (arith, n))
-        ∙ sym (row-byte block_size b P'.blocks j l)
+        ∙ sym (row_byte block_size b P'.blocks j l)
 
-    pub kind-same : kind_of P.blocks b ≡ kind_of P'.blocks b
-    kind-same = block-byte-same 0 (omega arith) (λ e. omega arith)
+    pub kind_same : kind_of P.blocks b ≡ kind_of P'.blocks b
+    kind_same = block_byte_same 0 (omega arith) (λ e. omega arith)
 
-    pub group-same : group_of P.blocks b ≡ group_of P'.blocks b
-    group-same = block-byte-same 1 (omega arith) (λ e. omega arith)
+    pub group_same : group_of P.blocks b ≡ group_of P'.blocks b
+    group_same = block_byte_same 1 (omega arith) (λ e. omega arith)
 
-    pub parameters-same : parameters_of P.blocks b ≡ parameters_of P'.blocks b
-    parameters-same =
+    pub parameters_same : parameters_of P.blocks b ≡ parameters_of P'.blocks b
+    parameters_same =
         ext_get_or 0 (parameters_of P.blocks b) (parameters_of P'.blocks b) long
         (λ k m. each k (omega (arith, parameters_long P.blocks b)))
       where
@@ -70,21 +70,21 @@ module _ {P P' : Project} (alike : Alike P P') where
             byte_at (parameters_of P.blocks b) k ≡ byte_at (parameters_of P'.blocks b) k
         each k m =
             parameter_byte (block_record P.blocks b) k m
-            ∙ block-byte-same (parameter_start + k) (omega arith) (λ e. omega arith)
+            ∙ block_byte_same (parameter_start + k) (omega arith) (λ e. omega arith)
             ∙ sym (parameter_byte (block_record P'.blocks b) k m)
 
-    link-bytes : (p : ℕ) → p < link_count → link_of P.blocks b p ≡ link_of P'.blocks b p
+    link_bytes : (p : ℕ) → p < link_count → link_of P.blocks b p ≡ link_of P'.blocks b p
     unfolding link_in
-    link-bytes p l =
+    link_bytes p l =
         let at = link_start + link_size * p in
-        λ i. source_from (block-byte-same at (omega arith) (λ e. omega arith) i)
-        (block-byte-same (at + 1) (omega arith) (λ e. omega arith) i)
-        (block-byte-same (at + 2) (omega arith) (λ e. omega arith) i)
+        λ i. source_from (block_byte_same at (omega arith) (λ e. omega arith) i)
+        (block_byte_same (at + 1) (omega arith) (λ e. omega arith) i)
+        (block_byte_same (at + 2) (omega arith) (λ e. omega arith) i)
 
-    pub link-same : (p : ℕ) → link_of P.blocks b p ≡ link_of P'.blocks b p
-    link-same p = go (dec_lt p link_count)
+    pub link_same : (p : ℕ) → link_of P.blocks b p ≡ link_of P'.blocks b p
+    link_same p = go (dec_lt p link_count)
       where
         go : Dec (p < link_count) → link_of P.blocks b p ≡ link_of P'.blocks b p
-        go (yes l) = link-bytes p l
+        go (yes l) = link_bytes p l
         go (no n) =
             past_links P.blocks b p (omega (arith, n)) ∙ sym (past_links P'.blocks b p (omega (arith, n)))

@@ -8,48 +8,48 @@ use Rattle.project.specs.Project.{size_counted, counts_of}
 
 module _ (G I : List ℕ) where
   -- bodies that are too long, and bodies that are not
-  pub groups-too-long : file_most < length G → 0 ≡ size_counted G I
+  pub groups_too_long : file_most < length G → 0 ≡ size_counted G I
   unfolding size_counted
-  groups-too-long l = rw (lt-leb (length G) file_most l)
+  groups_too_long l = rw (lt-leb (length G) file_most l)
 
-  pub inputs-too-long : file_most < length I → 0 ≡ size_counted G I
+  pub inputs_too_long : file_most < length I → 0 ≡ size_counted G I
   unfolding size_counted
-  inputs-too-long l = rw (lt-leb (length I) file_most l) (go (leb (length G) file_most))
+  inputs_too_long l = rw (lt-leb (length I) file_most l) (go (leb (length G) file_most))
     where
       go : (b : Bool) → 0 ≡ cond (b && false) (record_size G I) 0
       go true = refl
       go false = refl
 
-  pub size-counted : length G ≤ file_most → length I ≤ file_most → size_counted G I ≡ record_size G I
+  pub size_counted_is : length G ≤ file_most → length I ≤ file_most → size_counted G I ≡ record_size G I
   unfolding size_counted
-  size-counted l m = rw (le-leb (length G) file_most l, le-leb (length I) file_most m)
+  size_counted_is l m = rw (le-leb (length G) file_most l, le-leb (length I) file_most m)
 
   -- so it is for the bodies of an accepted file
   pub size_few : group_count G ≤ 8 → input_count I ≤ 128 → size_counted G I ≡ record_size G I
   unfolding group_count input_count
-  size_few l m = size-counted (omega arith) (omega arith)
+  size_few l m = size_counted_is (omega arith) (omega arith)
 
 module _ (G I B O : List ℕ) {c : Counts} (e : c ≡ counts_of G I B O) where
   pub is-device : c.device ≡ device G
   unfolding counts_of
   is-device = ap (λ (x : Counts). x.device) e
 
-  pub is-groups : c.groups ≡ group_count G
+  pub is_groups : c.groups ≡ group_count G
   unfolding counts_of
-  is-groups = ap (λ (x : Counts). x.groups) e
+  is_groups = ap (λ (x : Counts). x.groups) e
 
-  pub is-inputs : c.inputs ≡ input_count I
+  pub is_inputs : c.inputs ≡ input_count I
   unfolding counts_of
-  is-inputs = ap (λ (x : Counts). x.inputs) e
+  is_inputs = ap (λ (x : Counts). x.inputs) e
 
-  pub is-blocks : c.blocks ≡ block_count B
+  pub is_blocks : c.blocks ≡ block_count B
   unfolding counts_of
-  is-blocks = ap (λ (x : Counts). x.blocks) e
+  is_blocks = ap (λ (x : Counts). x.blocks) e
 
-  pub is-outputs : c.outputs ≡ output_count O
+  pub is_outputs : c.outputs ≡ output_count O
   unfolding counts_of
-  is-outputs = ap (λ (x : Counts). x.outputs) e
+  is_outputs = ap (λ (x : Counts). x.outputs) e
 
-  pub is-size : c.size ≡ size_counted G I
+  pub is_size : c.size ≡ size_counted G I
   unfolding counts_of
-  is-size = ap (λ (x : Counts). x.size) e
+  is_size = ap (λ (x : Counts). x.size) e

@@ -68,9 +68,9 @@ unfoldable pub place_of : (ℕ → ℕ) → ℕ → ℕ → ℕ
 place_of f n e = first_bad (λ (a : ℕ). not (eqb (f a) e)) n
 
 module _ {f : ℕ → ℕ} {n : ℕ} (i : Apart f n n) (e : ℕ) (l : e < n) where
-  pub place-lt : place_of f n e < n
+  pub place_lt : place_of f n e < n
   unfolding place_of
-  place-lt = go (dec_lt (first_bad p n) n)
+  place_lt = go (dec_lt (first_bad p n) n)
     where
       p : ℕ → Bool
       p a = not (eqb (f a) e)
@@ -87,4 +87,4 @@ module _ {f : ℕ → ℕ} {n : ℕ} (i : Apart f n n) (e : ℕ) (l : e < n) whe
   unfolding place_of
   place_is =
       let w = found (λ (a : ℕ). not (eqb (f a) e)) n in
-      eqb-true _ e (not-false (eqb (f (place_of f n e)) e) (w.fails place-lt))
+      eqb-true _ e (not-false (eqb (f (place_of f n e)) e) (w.fails place_lt))

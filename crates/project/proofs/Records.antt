@@ -21,14 +21,14 @@ small w k l m = omega (arith, mul-le-mul_left {m = k} {n = 65535} w (omega arith
 
 module _ (w k : ℕ) (s : List ℕ) where
   -- a record of no bytes, and one that starts past the end
-  pub row-none : w ≡ 0 → [] ≡ row_of w k s
+  pub row_none : w ≡ 0 → [] ≡ row_of w k s
   unfolding row_of
-  row-none e = ap (λ (n : ℕ). take n (drop (w * k) s)) (sym e)
+  row_none e = ap (λ (n : ℕ). take n (drop (w * k) s)) (sym e)
 
-  pub row-past : 0 < w → length s / w < k → [] ≡ row_of w k s
+  pub row_past : 0 < w → length s / w < k → [] ≡ row_of w k s
   unfolding row_of
-  row-past p l = sym (part_past s (w * k) w (omega (arith, past (length s) w k p l)))
+  row_past p l = sym (part_past s (w * k) w (omega (arith, past (length s) w k p l)))
 
-  pub row-byte : (j : ℕ) → j < w → byte_at (row_of w k s) j ≡ byte_at s (w * k + j)
+  pub row_byte : (j : ℕ) → j < w → byte_at (row_of w k s) j ≡ byte_at s (w * k + j)
   unfolding row_of
-  row-byte j l = get_or-take w (drop (w * k) s) j 0 l ∙ get_or-drop (w * k) s j 0
+  row_byte j l = get_or-take w (drop (w * k) s) j 0 l ∙ get_or-drop (w * k) s j 0

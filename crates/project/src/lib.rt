@@ -2,6 +2,7 @@
 // records' fields, and how many there are; where a parameter byte stands is said in `kind`. Every function is total: a
 // byte past the end reads as 0, and a record past the end is empty.
 #![tactic(auto)]
+
 ghost use Rattle.std.specs.Prelude.{◌≡◌};
 ghost use Rattle.project.specs.Project.{row_of, device, group_count, run_linked, input_size, input_group_in};
 ghost use Rattle.project.specs.Project.{input_type_in};
@@ -56,6 +57,7 @@ pub struct Counts {
 
 // Record k of those of `size` bytes each, where size or k is a large number: the place of one far past the end is not
 // summed up.
+#[tactic(auto, unfolding(crate::specs::Project::row_of))]
 fn far_record(records: &[u8], size: usize, k: usize) -> &[u8]
     ensures { result.now ≡ row_of size k records.now }
 {
@@ -69,6 +71,7 @@ fn far_record(records: &[u8], size: usize, k: usize) -> &[u8]
 }
 
 // Record k of those of `size` bytes each.
+#[tactic(auto, unfolding(crate::specs::Project::row_of))]
 pub fn record_at(records: &[u8], size: usize, k: usize) -> &[u8]
     ensures { result.now ≡ row_of size k records.now }
 {
@@ -82,12 +85,14 @@ pub fn record_at(records: &[u8], size: usize, k: usize) -> &[u8]
 }
 
 // The device byte, the number of groups, and the byte of group g.
+#[tactic(auto, unfolding(crate::specs::Project::device))]
 pub fn device_in(groups: &[u8]) -> u8
     ensures { result ≡ device groups.now }
 {
     wire::byte(groups, 0)
 }
 
+#[tactic(auto, unfolding(crate::specs::Project::group_count))]
 pub fn group_count(groups: &[u8]) -> usize
     ensures { result ≡ group_count groups.now }
 {
@@ -95,6 +100,7 @@ pub fn group_count(groups: &[u8]) -> usize
     if n == 0 { 0 } else { n - 1 }
 }
 
+#[tactic(auto, unfolding(crate::specs::Project::run_linked))]
 pub fn run_linked(groups: &[u8], g: usize) -> u8
     ensures { result ≡ run_linked groups.now g }
 {
@@ -105,6 +111,7 @@ pub fn run_linked(groups: &[u8], g: usize) -> u8
 }
 
 // The size of a cycle record; 0 for bodies that no file has.
+#[tactic(auto, unfolding(crate::specs::Project::group_count, crate::specs::Project::input_count, crate::specs::Project::record_size))]
 fn size_counted(groups: &[u8], inputs: &[u8]) -> usize
     ensures { result ≡ size_counted groups.now inputs.now }
 {
@@ -117,6 +124,7 @@ fn size_counted(groups: &[u8], inputs: &[u8]) -> usize
     HEAD_SIZE + group_count(groups) + WORD_SIZE * (inputs.len() / INPUT_SIZE)
 }
 
+#[tactic(auto, unfolding(crate::specs::Project::counts_of, crate::specs::Project::input_count, crate::specs::Project::block_count, crate::specs::Project::output_count))]
 pub fn counts_of(groups: &[u8], inputs: &[u8], blocks: &[u8], outputs: &[u8]) -> Counts
     ensures { result ≡ counts_of groups.now inputs.now
         blocks.now outputs.now }
@@ -188,6 +196,7 @@ pub fn zero_of(r: &[u8]) -> u8
     wire::byte(r, 3)
 }
 
+#[tactic(auto, unfolding(crate::specs::Project::parameters_in))]
 pub fn parameters_of(r: &[u8]) -> &[u8]
     ensures { result.now ≡ parameters_in r.now }
 {
@@ -213,6 +222,7 @@ pub fn link_port(r: &[u8], port: u8) -> u8
     wire::byte(r, LINK_START + LINK_SIZE * (port as usize) + 2)
 }
 
+#[tactic(auto, unfolding(crate::specs::Project::link_in))]
 pub fn source_of(r: &[u8], port: u8) -> Source
     ensures { result ≡ link_in r.now port }
 {

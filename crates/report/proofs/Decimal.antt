@@ -50,14 +50,14 @@ decimal_more n h =
 -- what holds of one digit, and of a number where it holds of its tenth, holds of every number
 module _ (P : ℕ → Type 0) (small : (n : ℕ) → n < 10 → P n)
     (more : (n : ℕ) → 10 ≤ n → P (n / 10) → P n) where
-  from-tenth : (fuel n : ℕ) → Dec (n < 10) → n < fuel → P n
-  from-tenth zero n d h = absurd (omega arith)
-  from-tenth (suc fuel) n (yes l) h = small n l
-  from-tenth (suc fuel) n (no l) h =
-      more n (omega (arith, l)) (from-tenth fuel (n / 10) (dec_lt (n / 10) 10) (omega (arith, l)))
+  from_tenth : (fuel n : ℕ) → Dec (n < 10) → n < fuel → P n
+  from_tenth zero n d h = absurd (omega arith)
+  from_tenth (suc fuel) n (yes l) h = small n l
+  from_tenth (suc fuel) n (no l) h =
+      more n (omega (arith, l)) (from_tenth fuel (n / 10) (dec_lt (n / 10) 10) (omega (arith, l)))
 
-  by-tenth : (n : ℕ) → P n
-  by-tenth n = from-tenth (suc n) n (dec_lt n 10) (omega arith)
+  by_tenth : (n : ℕ) → P n
+  by_tenth n = from_tenth (suc n) n (dec_lt n 10) (omega arith)
 
 -- ---- how many digits
 
@@ -78,7 +78,7 @@ decimal_long (suc k) n p q =
 
 pub decimal_some : (n : ℕ) → 1 ≤ length (decimal n)
 decimal_some =
-    by-tenth (λ (n : ℕ). 1 ≤ length (decimal n))
+    by_tenth (λ (n : ℕ). 1 ≤ length (decimal n))
     (λ n h. omega (arith, decimal_one n h))
     (λ n h e. omega (arith, tenth n h))
 
@@ -102,11 +102,11 @@ read_last v c (b ∷ cs) = read_last (10 * v + (b - 48)) c cs
 -- the digits of a number spell the number
 pub decimal-value : (n : ℕ) → value_of (decimal n) ≡ n
 decimal-value =
-    by-tenth (λ (n : ℕ). value_of (decimal n) ≡ n) (λ n h. ap value_of (decimal_small n h) ∙ omega arith)
-    more-read
+    by_tenth (λ (n : ℕ). value_of (decimal n) ≡ n) (λ n h. ap value_of (decimal_small n h) ∙ omega arith)
+    more_read
   where
-    more-read : (n : ℕ) → 10 ≤ n → value_of (decimal (n / 10)) ≡ n / 10 → value_of (decimal n) ≡ n
-    more-read n h e = ap value_of (decimal_more n h) ∙ read_last 0 (digit (n % 10)) (decimal (n / 10)) ∙ omega arith
+    more_read : (n : ℕ) → 10 ≤ n → value_of (decimal (n / 10)) ≡ n / 10 → value_of (decimal n) ≡ n
+    more_read n h e = ap value_of (decimal_more n h) ∙ read_last 0 (digit (n % 10)) (decimal (n / 10)) ∙ omega arith
 
 -- ---- decimal notation
 
@@ -122,15 +122,15 @@ numeral_last c (Numeral.number a b d) v p q = Numeral.number a b (digits_last c 
 
 -- the digits of a number are a numeral
 pub decimal_numeral : (n : ℕ) → Numeral (decimal n)
-decimal_numeral = by-tenth (λ (n : ℕ). Numeral (decimal n)) one-digit more-digits
+decimal_numeral = by_tenth (λ (n : ℕ). Numeral (decimal n)) one_digit more_digits
   where
-    one-digit : (n : ℕ) → n < 10 → Numeral (decimal n)
-    one-digit zero h = rw (decimal_small 0 h) Numeral.nought
-    one-digit (suc n) h =
+    one_digit : (n : ℕ) → n < 10 → Numeral (decimal n)
+    one_digit zero h = rw (decimal_small 0 h) Numeral.nought
+    one_digit (suc n) h =
         rw (decimal_small (suc n) h) (Numeral.number {c = digit (suc n)} (omega arith) (omega arith) Digits.none)
 
-    more-digits : (n : ℕ) → 10 ≤ n → Numeral (decimal (n / 10)) → Numeral (decimal n)
-    more-digits n h e =
+    more_digits : (n : ℕ) → 10 ≤ n → Numeral (decimal (n / 10)) → Numeral (decimal n)
+    more_digits n h e =
         rw (decimal_more n h)
         (numeral_last (digit (n % 10)) e (rw (decimal-value (n / 10)) (omega arith)) (omega arith) (omega arith))
 

@@ -75,12 +75,12 @@ behind_none l at text e = record {
 
 module _ {l text out front : List ℕ} {at to : ℕ} (b : Behind l at text out to front) where
   -- the buffer is as long as it was
-  pub behind-kept : length out ≡ length l
-  behind-kept = ap length b.bytes ∙ length-sets l to b.tail
+  pub behind_kept : length out ≡ length l
+  behind_kept = ap length b.bytes ∙ length-sets l to b.tail
 
   -- where the front is not empty, there is a place for its last character
-  pub behind-some : 1 ≤ length front → at + 1 ≤ to
-  behind-some h = omega (arith, b.place)
+  pub behind_some : 1 ≤ length front → at + 1 ≤ to
+  behind_some h = omega (arith, b.place)
 
   -- one character more
   pub behind_more : {out' front' : List ℕ} (a : ℕ) → front ≡ front' ++ (a ∷ []) →
@@ -99,8 +99,8 @@ module _ {l text out front : List ℕ} {at to : ℕ} (b : Behind l at text out t
       }
 
   -- nothing is left
-  pub behind-all : front ≡ [] → out ≡ sets l at text
-  behind-all f =
+  pub behind_all : front ≡ [] → out ≡ sets l at text
+  behind_all f =
       let start : to ≡ at = b.place ∙ ap (λ (s : List ℕ). at + length s) f ∙ add-zero at in
       b.bytes
       ∙ ap (λ (k : ℕ). sets l k b.tail) start
@@ -111,4 +111,4 @@ pub behind_first : {l text out out' front : List ℕ} {at to : ℕ} (a : ℕ) �
     front ≡ a ∷ [] → out' ≡ set out at a → out' ≡ sets l at text
 behind_first {out = out} {at = at} {to = to} a b f e =
     let start : at ≡ to - 1 = omega (arith, b.place, ap length f) in
-    behind-all (behind_more b a f (e ∙ ap (λ (k : ℕ). set out k a) start)) refl
+    behind_all (behind_more b a f (e ∙ ap (λ (k : ℕ). set out k a) start)) refl

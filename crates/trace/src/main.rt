@@ -1,6 +1,8 @@
 // The trace program: reads a case file from standard input and prints its trace (01, "The trace program"; the crate
 // `tracer`).
-use libc::STDIN_FILENO;
+#![tactic(auto)]
+// The number of standard input.
+const STDIN_FILENO: i32 = 0;
 
 fn main() {
     // One byte more than a case file may have.

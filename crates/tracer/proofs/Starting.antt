@@ -16,14 +16,14 @@ use Rattle.casefile.specs.Bodies.{body_count, body_g, body_i, body_t, body_in, p
 use Rattle.casefile.specs.Bodies.{record_of}
 use Rattle.casefile.specs.Rules.{size_ok}
 use Rattle.casefile.specs.Refusal.{file_table}
-use Rattle.casefile.proofs.Refusals.{number-zero, every}
+use Rattle.casefile.proofs.Refusals.{number_zero, every}
 use Rattle.casefile.proofs.Accepted.{accepted}
 use Rattle.evaluator.specs.State.{state_length, findings_length, state_formed}
 use Rattle.evaluator.specs.Fresh.{fresh_number, fresh_left, fresh_for}
 use Rattle.evaluator.specs.Asks.{Standing, Grouped, Ordered, Listed, Begun, error_list}
-use Rattle.evaluator.proofs.Checking.{Taken, taken, groups-counted, blocks-counted, listed}
+use Rattle.evaluator.proofs.Checking.{Taken, taken, groups_counted, blocks_counted, listed}
 use Rattle.evaluator.proofs.Checked.{standing, grouped, ordered}
-use Rattle.evaluator.proofs.FreshFormed.{fresh-refused, fresh-done}
+use Rattle.evaluator.proofs.FreshFormed.{fresh_refused, fresh_done}
 use Rattle.tracer.specs.declared.End.{End}
 use Rattle.tracer.specs.declared.End.TheVariants.{Refused}
 use Rattle.tracer.specs.Traced.{unless_refused, run_end, end_of}
@@ -37,31 +37,31 @@ unless_some (suc n) e h = refl
 
 module _ (F S : List ℕ) where
   module _ (z : fresh_number F S ≡ 0) where
-    pub is-accepted : first (file_table F) ≡ 0
-    is-accepted = go (ℕ_discrete (first (file_table F)) 0)
+    pub is_accepted : first (file_table F) ≡ 0
+    is_accepted = go (ℕ_discrete (first (file_table F)) 0)
       where
         go : Dec (first (file_table F) ≡ 0) → first (file_table F) ≡ 0
         go (yes y) = y
-        go (no k) = (fresh-refused F S _ refl k).0 ∙ z
+        go (no k) = (fresh_refused F S _ refl k).0 ∙ z
 
-    pub is-fresh : fresh_left F S ≡ fresh_for (project_of F)
+    pub is_fresh : fresh_left F S ≡ fresh_for (project_of F)
     unfolding fresh_left
-    is-fresh = rw z
+    is_fresh = rw z
 
     pub is-run : run_end F ≡ end_of F
     unfolding end_of
-    is-run = rw is-accepted refl
+    is-run = rw is_accepted refl
 
   -- the number of a state that was not written is the file's, where the state has the size of an accepted file's
-  pub is-refused : (x : ℕ) →
+  pub is_refused : (x : ℕ) →
       (first (file_table F) ≡ 0 → length S ≡ state_length (project_of F).groups (project_of F).blocks) →
       x ≡ fresh_number F S → x ≢ 0 → Refused x ≡ end_of F
   unfolding end_of
-  is-refused x h p q = go (ℕ_discrete (first (file_table F)) 0)
+  is_refused x h p q = go (ℕ_discrete (first (file_table F)) 0)
     where
       go : Dec (first (file_table F) ≡ 0) → Refused x ≡ unless_refused (first (file_table F)) (run_end F)
-      go (yes z) = absurd (q (p ∙ sym (fresh-done F S z _ refl (fresh_for (project_of F)) (h z) refl).0))
-      go (no k) = ap Refused (p ∙ sym (fresh-refused F S _ refl k).0) ∙ unless_some _ (run_end F) k
+      go (yes z) = absurd (q (p ∙ sym (fresh_done F S z _ refl (fresh_for (project_of F)) (h z) refl).0))
+      go (no k) = ap Refused (p ∙ sym (fresh_refused F S _ refl k).0) ∙ unless_some _ (run_end F) k
 
 -- ---- an accepted file
 
@@ -82,13 +82,13 @@ body_short F e = go (contents_ok body_count F && ltb e body_count)
     go false = omega arith
 
 pub taken_of : (F : List ℕ) → first (file_table F) ≡ 0 → Taken (project_of F)
-taken_of F z = taken F (accepted F (number-zero F z))
+taken_of F z = taken F (accepted F (number_zero F z))
 
 -- it is no longer than 65,536 bytes, so it has no more records
 pub few_records : (F : List ℕ) → first (file_table F) ≡ 0 → record_count F ≤ 65536
 unfolding record_count size_ok
 few_records F z =
-    let t = every F (number-zero F z) in
+    let t = every F (number_zero F z) in
     let h : size_ok F ≡ true = search t in
     let T = body_in F body_t in
     let l = leb-true (length F) file_most (both_right (leb (contents_size body_count) (length F)) _ h) in
@@ -98,21 +98,21 @@ pub ordered_of : (F : List ℕ) (c : Counts) (B : List ℕ) → first (file_tabl
     c ≡ counts_in (project_of F) → B ≡ (project_of F).blocks → Ordered B c.blocks
 ordered_of F c B z e b =
     let t = taken_of F z in
-    rw b (ordered t.sound (groups-counted e t) (blocks-counted e t))
+    rw b (ordered t.sound (groups_counted e t) (blocks_counted e t))
 
 module _ {F : List ℕ} {c : Counts} {G I B T K D : List ℕ} (s : Started F c G I B T K D) where
   t : Taken (project_of F)
   t = taken_of F s.accepted
 
   heads : c.groups ≡ group_count (project_of F).groups
-  heads = groups-counted s.counts t
+  heads = groups_counted s.counts t
 
-  pub standing-of : (S : List ℕ) → length S ≡ state_length (project_of F).groups (project_of F).blocks →
+  pub standing_of : (S : List ℕ) → length S ≡ state_length (project_of F).groups (project_of F).blocks →
       Standing B S c.groups
-  standing-of S l = rw s.blocks (standing t.sound heads (blocks-counted s.counts t) S l)
+  standing_of S l = rw s.blocks (standing t.sound heads (blocks_counted s.counts t) S l)
 
-  pub grouped-of : Grouped B c.blocks
-  grouped-of = rw s.blocks (grouped t.sound heads (blocks-counted s.counts t))
+  pub grouped_of : Grouped B c.blocks
+  grouped_of = rw s.blocks (grouped t.sound heads (blocks_counted s.counts t))
 
   counted : Listed c (project_of F).groups (project_of F).inputs
   counted = listed s.counts t
@@ -120,14 +120,14 @@ module _ {F : List ℕ} {c : Counts} {G I B T K D : List ℕ} (s : Started F c G
   pub listed_of : Listed c G I
   listed_of = rw (s.groups, s.inputs) counted
 
-  pub begun-of : (E S D : List ℕ) → E ≡ error_list c.groups B S →
+  pub begun_of : (E S D : List ℕ) → E ≡ error_list c.groups B S →
       length S ≡ state_length (project_of F).groups (project_of F).blocks →
       state_formed (project_of F).groups (project_of F).blocks S ≡ true →
       D ≡ replicate (findings_length (project_of F).blocks) 0 → Begun c (input_count I) G B K E S D
-  begun-of E S D e l f d = record {
+  begun_of E S D e l f d = record {
     sound = rw (s.groups, s.inputs, s.blocks) t.sound;
     groups = heads ∙ ap group_count (sym s.groups);
-    blocks = rw s.blocks (blocks-counted s.counts t);
+    blocks = rw s.blocks (blocks_counted s.counts t);
     order = s.order;
     errors = e ∙ ap (λ (h : ℕ). error_list h B S) (heads ∙ ap group_count (sym s.groups));
     size = rw (s.groups, s.blocks) l;
@@ -135,9 +135,9 @@ module _ {F : List ℕ} {c : Counts} {G I B T K D : List ℕ} (s : Started F c G
     clean = rw s.blocks d;
   }
 
-  pub size-some : 0 < c.size
+  pub size_some : 0 < c.size
   unfolding record_size
-  size-some = omega (arith, counted.size)
+  size_some = omega (arith, counted.size)
 
   pub count_is : length T / c.size ≡ record_count F
   unfolding record_count project_of

@@ -15,9 +15,9 @@ use Rattle.evaluator.specs.Answer.{Lent, Left, record_ok, sizes_ok, cycle_of}
 use Rattle.evaluator.specs.Runs.{run}
 use Rattle.evaluator.specs.Fresh.{fresh_for}
 use Rattle.evaluator.specs.Steps.{step_answer, step_state, step_findings}
-use Rattle.evaluator.proofs.FreshFormed.{fresh-length, fresh-state-formed}
+use Rattle.evaluator.proofs.FreshFormed.{fresh_length, fresh_state_formed}
 use Rattle.evaluator.proofs.Stepping.{Stepped, stepped, sizes_are}
-use Rattle.evaluator.proofs.Few.{few-found, none_found}
+use Rattle.evaluator.proofs.Few.{few_found, none_found}
 use Rattle.tracer.specs.declared.End.{End}
 use Rattle.tracer.specs.declared.End.TheVariants.{Refused as Halted, Ran}
 use Rattle.tracer.specs.Traced.{records_from, fresh_lent, calls, goes_on, ended, run_end}
@@ -48,9 +48,9 @@ begins F n z e s =
       lent = fresh_lent F;
       state = s;
       sizes =
-          sizes_are P (fresh_lent F) (fresh-length P) (length-replicate {A = ℕ} (outputs_length P.outputs) 0)
+          sizes_are P (fresh_lent F) (fresh_length P) (length-replicate {A = ℕ} (outputs_length P.outputs) 0)
           (length-replicate {A = ℕ} (findings_length P.blocks) 0);
-      formed = fresh-state-formed P (taken_of F z).sound;
+      formed = fresh_state_formed P (taken_of F z).sound;
       left = ap (λ (m : ℕ). run F (records_from F 0 m) (fresh_lent F)) (sym (sub-zero n ∙ e));
       ends = refl;
       told = refl;
@@ -124,15 +124,15 @@ module _ {F : List ℕ} {n k t : ℕ} {S : List ℕ} (h : Here F n k t S) (l : k
   ends_by e = ap end_by e ∙ sym (ap (ended k t) unrolled) ∙ h.ends
 
   -- what is printed from this cycle on
-  abbrev texts-with : Answer → List (List ℕ)
-  texts-with a =
+  abbrev texts_with : Answer → List (List ℕ)
+  texts_with a =
       let B = (project_of F).blocks in
       goes_on a (λ _. []) (λ m. lines_of B (k + 1) m (call F k h.lent).lent.findings
       ∷ texts_from B (k + 1) (later F n k h.lent))
 
-  texts-by : {a : Answer} → a ≡ (call F k h.lent).answer → drop k (texts F) ≡ texts-with a
+  texts_by : {a : Answer} → a ≡ (call F k h.lent).answer → drop k (texts F) ≡ texts_with a
   unfolding texts_from
-  texts-by e = h.told ∙ ap (texts_from (project_of F).blocks k) unrolled ∙ sym (ap texts-with e)
+  texts_by e = h.told ∙ ap (texts_from (project_of F).blocks k) unrolled ∙ sym (ap texts_with e)
 
   -- the lines of a record that is taken
   pub tells : {a : Answer} {m : ℕ} {S1 D1 B : List ℕ} → a ≡ Findings m →
@@ -144,17 +144,17 @@ module _ {F : List ℕ} {n k t : ℕ} {S : List ℕ} (h : Here F n k t S) (l : k
         before = k;
         later = rest;
         number = i;
-        here = texts-by (sym e ∙ u.answer) ∙ sym (λ j. lines_of (b j) (i j) m (u.findings e j) ∷ rest);
+        here = texts_by (sym e ∙ u.answer) ∙ sym (λ j. lines_of (b j) (i j) m (u.findings e j) ∷ rest);
       }
 
   -- it has few findings, and where it has none zeros
-  pub finds-few : {a : Answer} {m : ℕ} {S1 D1 : List ℕ} → a ≡ Findings m →
+  pub finds_few : {a : Answer} {m : ℕ} {S1 D1 : List ℕ} → a ≡ Findings m →
       Turned (call F k h.lent) a S1 D1 → m ≤ 64
-  finds-few {m = m} e u = few-found F (record_of F k) h.lent m (sym e ∙ u.answer)
+  finds_few {m = m} e u = few_found F (record_of F k) h.lent m (sym e ∙ u.answer)
 
-  pub finds-none : {a : Answer} {m : ℕ} {S1 D1 : List ℕ} → a ≡ Findings m →
+  pub finds_none : {a : Answer} {m : ℕ} {S1 D1 : List ℕ} → a ≡ Findings m →
       Turned (call F k h.lent) a S1 D1 → m ≡ 0 → D1 ≡ replicate (length D1) 0
-  finds-none {D1 = D1} e u z =
+  finds_none {D1 = D1} e u z =
       let n = findings_length (project_of F).blocks in
       let zeros : D1 ≡ replicate n 0 =
       u.findings e ∙ none_found F (record_of F k) h.lent (sym (e ∙ ap Findings z) ∙ u.answer) in
@@ -171,7 +171,7 @@ module _ {F : List ℕ} {n k t : ℕ} {S : List ℕ} (h : Here F n k t S) (l : k
     left = rest;
     ends = ap (ended (k + 1) (t + m)) rest ∙ ends_by (sym e ∙ u.answer);
     told =
-        sym (drop-drop 1 k (texts F)) ∙ ap (drop 1) (texts-by (sym e ∙ u.answer))
+        sym (drop-drop 1 k (texts F)) ∙ ap (drop 1) (texts_by (sym e ∙ u.answer))
         ∙ sym (ap (texts_from (project_of F).blocks (k + 1)) rest);
   }
 

@@ -1,6 +1,8 @@
 // The trace of a case file: from its fresh state all its cycles, each finding a line on standard output, and at the end
 // `end` with the counts or `refused` with the number (01, "The trace program"). The file is checked once. The evaluator
 // runs the cycles and `lines` makes the lines; here they are written.
+#![tactic(auto)]
+
 ghost use Rattle.std.specs.Prelude.{◌≡◌, ◌/◌, ◌<◌, ◌≤◌, length, replicate};
 ghost use Rattle.casefile.specs.Bodies.{project_of};
 ghost use Rattle.evaluator.specs.Fresh.{fresh_for};
@@ -12,9 +14,11 @@ mod lines;
 
 use block::{FINDING_SIZE, STATE_SIZE};
 use evaluator::{Answer, GROUPS_AT};
-use libc::STDOUT_FILENO;
 use project::Counts;
 use report::LINE_MOST;
+
+// The number of standard output.
+const STDOUT_FILENO: i32 = 1;
 
 // An accepted file has at most so many groups and blocks.
 const GROUPS: usize = 8;

@@ -1,6 +1,8 @@
 // Prints the traces of the case files of standard input, one after the other, each file after its length (4 bytes,
 // little endian), so that they can be compared with a second source. A file that is broken off ends the run.
-use libc::STDIN_FILENO;
+#![tactic(auto)]
+// The number of standard input.
+const STDIN_FILENO: i32 = 0;
 
 // The trace of the next file. Answers whether there was one.
 fn next(space: &mut [u8]) -> bool {

@@ -42,14 +42,14 @@ sets_whole v l e =
     (ap (λ (k : ℕ). drop k l) (zero-add (length v) ∙ e) ∙ drop-length l) ∙ append-nil v
 
 module _ (w : ℕ) (hit : ℕ → Bool) (f : ℕ → List ℕ) where
-  entries-hit : (b : ℕ) → hit b ≡ true → entries (b + 1) hit f ≡ entries b hit f ++ f b
+  entries_hit : (b : ℕ) → hit b ≡ true → entries (b + 1) hit f ≡ entries b hit f ++ f b
   unfolding entries
-  entries-hit b e =
+  entries_hit b e =
       ap (λ (k : ℕ). entries k hit f) (add-one b) ∙ ap (λ (t : Bool). entries b hit f ++ cond t (f b) []) e
 
-  entries-miss : (b : ℕ) → hit b ≡ false → entries (b + 1) hit f ≡ entries b hit f
+  entries_miss : (b : ℕ) → hit b ≡ false → entries (b + 1) hit f ≡ entries b hit f
   unfolding entries
-  entries-miss b e =
+  entries_miss b e =
       ap (λ (k : ℕ). entries k hit f) (add-one b) ∙ ap (λ (t : Bool). entries b hit f ++ cond t (f b) []) e
       ∙ append-nil (entries b hit f)
 
@@ -67,9 +67,9 @@ module _ (w : ℕ) (hit : ℕ → Bool) (f : ℕ → List ℕ) where
   front s buffer k b h =
       h.list ∙ ap (λ (m : ℕ). entries b hit f ++ replicate (w * b - m) 0 ++ drop (w * b) s) h.size
 
-  pub kept-start : (s : List ℕ) → Kept w hit f s s 0 0
+  pub kept_start : (s : List ℕ) → Kept w hit f s s 0 0
   unfolding hits entries packed
-  kept-start s = record {
+  kept_start s = record {
     few = omega arith;
     count = refl;
     size = sym (mul-zero w);
@@ -80,27 +80,27 @@ module _ (w : ℕ) (hit : ℕ → Bool) (f : ℕ → List ℕ) where
   next : (b : ℕ) → w * (b + 1) ≡ w * b + w
   next b = ap (λ (j : ℕ). w * j) (add-one b) ∙ mul-suc w b
 
-  more-zeros : (k b : ℕ) → k ≤ b → zeros k b ++ replicate w 0 ≡ zeros k (b + 1)
+  more_zeros : (k b : ℕ) → k ≤ b → zeros k b ++ replicate w 0 ≡ zeros k (b + 1)
   unfolding zeros
-  more-zeros k b l =
+  more_zeros k b l =
       let sum : w * b - w * k + w ≡ w * (b + 1) - w * k = omega (arith, next b, mul-le-mul_left w l) in
       replicate-append-replicate (w * b - w * k) w 0 ∙ ap (λ (m : ℕ). replicate m 0) sum
 
   module _ (s buffer : List ℕ) (k b : ℕ) (h : Kept w hit f s buffer k b) where
-    packed-long : length (entries b hit f ++ zeros k b) ≡ w * b
+    packed_long : length (entries b hit f ++ zeros k b) ≡ w * b
     unfolding zeros
-    packed-long =
+    packed_long =
         length-append (entries b hit f) (zeros k b)
         ∙ omega (arith, h.size, length-replicate {A = ℕ} (w * b - w * k) 0, mul-le-mul_left w h.few)
 
-    pub kept-long : w * b ≤ length s → length buffer ≡ length s
-    kept-long room =
+    pub kept_long : w * b ≤ length s → length buffer ≡ length s
+    kept_long room =
         ap length (front s buffer k b h) ∙ length-append (entries b hit f ++ zeros k b) (drop (w * b) s)
-        ∙ omega (arith, packed-long, length-drop (w * b) s)
+        ∙ omega (arith, packed_long, length-drop (w * b) s)
 
   module _ (s buffer : List ℕ) (k b : ℕ) (h : Kept w hit f s buffer k b) (room : w * (b + 1) ≤ length s) where
-    long-packed : length (entries b hit f ++ zeros k b) ≡ w * b
-    long-packed = packed-long s buffer k b h
+    long_packed : length (entries b hit f ++ zeros k b) ≡ w * b
+    long_packed = packed_long s buffer k b h
 
     -- the rest of s is the record of place b and what comes after it
     rest : drop (w * b) s ≡ take w (drop (w * b) s) ++ drop (w * (b + 1)) s
@@ -113,14 +113,14 @@ module _ (w : ℕ) (hit : ℕ → Bool) (f : ℕ → List ℕ) where
     pub kept_slot : drop (w * b) buffer ≡ drop (w * b) s
     kept_slot =
         ap (drop (w * b)) (front s buffer k b h)
-        ∙ drop_at (entries b hit f ++ zeros k b) (drop (w * b) s) (w * b) long-packed
+        ∙ drop_at (entries b hit f ++ zeros k b) (drop (w * b) s) (w * b) long_packed
 
-    pub kept-miss : hit b ≡ false → take w (drop (w * b) s) ≡ replicate w 0 → Kept w hit f s buffer k (b + 1)
+    pub kept_miss : hit b ≡ false → take w (drop (w * b) s) ≡ replicate w 0 → Kept w hit f s buffer k (b + 1)
     unfolding packed zeros
-    kept-miss e z = record {
+    kept_miss e z = record {
       few = omega (arith, h.few);
       count = h.count ∙ sym (hits-is b false e ∙ add-zero (hits b hit));
-      size = ap length (entries-miss b e) ∙ h.size;
+      size = ap length (entries_miss b e) ∙ h.size;
       list =
           front s buffer k b h
           ∙ ap (λ (t : List ℕ). entries b hit f ++ zeros k b ++ t)
@@ -128,11 +128,11 @@ module _ (w : ℕ) (hit : ℕ → Bool) (f : ℕ → List ℕ) where
           ∙ sym (append_assoc (entries b hit f ++ zeros k b) (replicate w 0) (drop (w * (b + 1)) s))
           ∙ ap (λ (t : List ℕ). t ++ drop (w * (b + 1)) s)
           (append_assoc (entries b hit f) (zeros k b) (replicate w 0)
-          ∙ ap (λ (t : List ℕ). entries b hit f ++ t) (more-zeros k b h.few))
+          ∙ ap (λ (t : List ℕ). entries b hit f ++ t) (more_zeros k b h.few))
           ∙ ap (λ (m : ℕ). entries b hit f ++ replicate (w * (b + 1) - m) 0 ++ drop (w * (b + 1)) s)
           (sym h.size)
           ∙ ap (λ (t : List ℕ). t ++ replicate (w * (b + 1) - length t) 0 ++ drop (w * (b + 1)) s)
-          (sym (entries-miss b e));
+          (sym (entries_miss b e));
     }
 
     -- place b's record is cleared
@@ -141,7 +141,7 @@ module _ (w : ℕ) (hit : ℕ → Bool) (f : ℕ → List ℕ) where
     cleared =
         let w-zeros = length-replicate {A = ℕ} w 0 in
         ap (λ (t : List ℕ). sets t (w * b) (replicate w 0)) (front s buffer k b h)
-        ∙ ap (λ (j : ℕ). sets (entries b hit f ++ zeros k b ++ drop (w * b) s) j (replicate w 0)) (sym long-packed)
+        ∙ ap (λ (j : ℕ). sets (entries b hit f ++ zeros k b ++ drop (w * b) s) j (replicate w 0)) (sym long_packed)
         ∙ sets_after (entries b hit f ++ zeros k b) (drop (w * b) s) (replicate w 0)
         (omega (arith, w-zeros, length-drop (w * b) s, next b))
         ∙ ap (λ (t : List ℕ). entries b hit f ++ zeros k b ++ replicate w 0 ++ t)
@@ -149,17 +149,17 @@ module _ (w : ℕ) (hit : ℕ → Bool) (f : ℕ → List ℕ) where
         ∙ ap (λ (j : ℕ). drop j s) (sym (next b)))
         ∙ ap (λ (t : List ℕ). t ++ drop (w * (b + 1)) s)
         (append_assoc (entries b hit f) (zeros k b) (replicate w 0)
-        ∙ ap (λ (t : List ℕ). entries b hit f ++ t) (more-zeros k b h.few))
+        ∙ ap (λ (t : List ℕ). entries b hit f ++ t) (more_zeros k b h.few))
         ∙ append_assoc (entries b hit f) (zeros k (b + 1)) (drop (w * (b + 1)) s)
 
     -- and written after the others
-    pub kept-hit : hit b ≡ true → length (f b) ≡ w →
+    pub kept_hit : hit b ≡ true → length (f b) ≡ w →
         Kept w hit f s (sets (sets buffer (w * b) (replicate w 0)) (w * k) (f b)) (k + 1) (b + 1)
     unfolding packed zeros
-    kept-hit e long = record {
+    kept_hit e long = record {
       few = omega (arith, h.few);
       count = ap (λ (n : ℕ). n + 1) h.count ∙ sym (hits-is b true e);
-      size = ap length (entries-hit b e) ∙ length-append (entries b hit f) (f b)
+      size = ap length (entries_hit b e) ∙ length-append (entries b hit f) (f b)
           ∙ omega (arith, h.size, long, next k);
       list =
           ap (λ (t : List ℕ). sets t (w * k) (f b)) cleared
@@ -167,11 +167,11 @@ module _ (w : ℕ) (hit : ℕ → Bool) (f : ℕ → List ℕ) where
           (sym h.size)
           ∙ sets_after (entries b hit f) (zeros k (b + 1) ++ drop (w * (b + 1)) s) (f b) fits
           ∙ ap (λ (t : List ℕ). entries b hit f ++ f b ++ t)
-          (after-zeros ∙ ap (λ (m : ℕ). replicate m 0 ++ drop (w * (b + 1)) s) count_left)
+          (after_zeros ∙ ap (λ (m : ℕ). replicate m 0 ++ drop (w * (b + 1)) s) count_left)
           ∙ sym (append_assoc (entries b hit f ++ f b) (replicate (w * (b + 1) - length (entries b hit f ++ f b)) 0)
           (drop (w * (b + 1)) s))
           ∙ ap (λ (t : List ℕ). t ++ replicate (w * (b + 1) - length t) 0 ++ drop (w * (b + 1)) s)
-          (sym (entries-hit b e));
+          (sym (entries_hit b e));
     }
       where
         many : length (zeros k (b + 1)) ≡ w * (b + 1) - w * k
@@ -180,9 +180,9 @@ module _ (w : ℕ) (hit : ℕ → Bool) (f : ℕ → List ℕ) where
         fits : length (f b) ≤ length (zeros k (b + 1) ++ drop (w * (b + 1)) s)
         fits = simp length-append (omega (arith, many, long, next b, mul-le-mul_left w h.few))
 
-        after-zeros : drop (length (f b)) (zeros k (b + 1) ++ drop (w * (b + 1)) s)
+        after_zeros : drop (length (f b)) (zeros k (b + 1) ++ drop (w * (b + 1)) s)
             ≡ replicate (w * (b + 1) - w * k - length (f b)) 0 ++ drop (w * (b + 1)) s
-        after-zeros =
+        after_zeros =
             drop-append-le (length (f b)) (zeros k (b + 1)) (drop (w * (b + 1)) s)
             (omega (arith, many, long, next b, mul-le-mul_left w h.few))
             ∙ ap (λ (t : List ℕ). t ++ drop (w * (b + 1)) s)
@@ -192,9 +192,9 @@ module _ (w : ℕ) (hit : ℕ → Bool) (f : ℕ → List ℕ) where
         count_left = omega (arith, h.size, length-append (entries b hit f) (f b))
 
   -- all are packed
-  pub kept-end : (s buffer : List ℕ) (k n : ℕ) → length s ≡ w * n → Kept w hit f s buffer k n →
+  pub kept_end : (s buffer : List ℕ) (k n : ℕ) → length s ≡ w * n → Kept w hit f s buffer k n →
       buffer ≡ packed (w * n) n hit f
-  kept-end s buffer k n e h =
+  kept_end s buffer k n e h =
       h.list ∙ ap (λ (t : List ℕ). packed (w * n) n hit f ++ t)
       (ap (λ (j : ℕ). drop j s) (sym e) ∙ drop-length s)
       ∙ append-nil (packed (w * n) n hit f)
@@ -346,10 +346,10 @@ module _ (w : ℕ) (hit : ℕ → Bool) (f : ℕ → List ℕ) where
           ∙ e ∙ sym (add-zero (hits n (λ k. hit k && p (f k))))
 
   -- and so one that holds of each place that is hit holds of every entry
-  pub entries-each : (p : List ℕ → Bool) (n : ℕ) → ((b : ℕ) → b < n → length (f b) ≡ w) →
+  pub entries_each : (p : List ℕ → Bool) (n : ℕ) → ((b : ℕ) → b < n → length (f b) ≡ w) →
       ((b : ℕ) → b < n → hit b ≡ true → p (f b) ≡ true) →
       (k : ℕ) → k < hits n hit → p (take w (drop (w * k) (entries n hit f))) ≡ true
-  entries-each p n long good k l =
+  entries_each p n long good k l =
       not-false _
       (hits_zero (hits n hit) (λ j. not (p (take w (drop (w * j) (entries n hit f)))))
       (entries-hits (λ x. not (p x)) n long ∙ hits_none n _ (λ b m. go b m (hit b) refl)) k l)

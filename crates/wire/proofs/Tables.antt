@@ -66,23 +66,23 @@ module _ {rs : List Row} {a b : ℕ} (f : FirstIn rs a) (g : FirstIn rs b) where
       go (no x) (yes l) = absurd (true≢false (sym (f.earlier g.place l) ∙ g.fails))
       go (no x) (no y) = omega (arith, x, y)
 
-  pub one-first : a ≡ b
-  one-first = sym f.number ∙ ap (λ (k : ℕ). (row_at rs k).number) same_place ∙ g.number
+  pub one_first : a ≡ b
+  one_first = sym f.number ∙ ap (λ (k : ℕ). (row_at rs k).number) same_place ∙ g.number
 
 -- a table that is not kept throughout has no row that is not kept, and the reverse
 pub kept_not : {rs : List Row} {n : ℕ} → AllKept rs → FirstIn rs n → ⊥
 kept_not h f = true≢false (sym (h f.place) ∙ f.fails)
 
 module _ (rs : List Row) where
-  pub first-in : {n : ℕ} → FirstIn rs n → first rs ≡ n
-  first-in {n} f = go (first-is rs)
+  pub first_in : {n : ℕ} → FirstIn rs n → first rs ≡ n
+  first_in {n} f = go (first-is rs)
     where
       go : Holding rs (first rs) ⊎ FirstIn rs (first rs) → first rs ≡ n
       go (inl h) = absurd (kept_not h.each f)
-      go (inr g) = one-first g f
+      go (inr g) = one_first g f
 
-  pub first-none : AllKept rs → first rs ≡ 0
-  first-none h = go (first-is rs)
+  pub first_none : AllKept rs → first rs ≡ 0
+  first_none h = go (first-is rs)
     where
       go : Holding rs (first rs) ⊎ FirstIn rs (first rs) → first rs ≡ 0
       go (inl w) = w.none
@@ -98,15 +98,15 @@ number_some (r ∷ rs) s zero f = ltb-true 0 r.number (both_left (ltb 0 r.number
 number_some (r ∷ rs) s (suc k) f = number_some rs (both_right (ltb 0 r.number) (numbered rs) s) k f
 
 module _ (rs : List Row) (s : numbered rs ≡ true) where
-  pub first-zero : (first rs ≡ 0) ↔ AllKept rs
-  first-zero = (λ z. go z (first-is rs), first-none rs)
+  pub first_zero : (first rs ≡ 0) ↔ AllKept rs
+  first_zero = (λ z. go z (first-is rs), first_none rs)
     where
       go : first rs ≡ 0 → Holding rs (first rs) ⊎ FirstIn rs (first rs) → AllKept rs
       go z (inl h) = h.each
       go z (inr f) = absurd (omega (arith, z, f.number, number_some rs s f.place f.fails))
 
   pub first_some : (n : ℕ) → n ≢ 0 → (first rs ≡ n) ↔ FirstIn rs n
-  first_some n p = (λ e. go e (first-is rs), first-in rs)
+  first_some n p = (λ e. go e (first-is rs), first_in rs)
     where
       go : first rs ≡ n → Holding rs (first rs) ⊎ FirstIn rs (first rs) → FirstIn rs n
       go e (inl h) = absurd (p (sym e ∙ h.none))
@@ -120,8 +120,8 @@ past_kept (r ∷ rs) zero l = absurd (not-suc-le-zero l)
 past_kept (r ∷ rs) (suc k) l = past_kept rs k (le_of_suc-le-suc l)
 
 module _ (rs : List Row) {k : ℕ} (e : k ≡ first_bad (kept_at rs) (length rs)) where
-  pub first-hit : k < length rs → first rs ≡ (row_at rs k).number
-  first-hit l = first-in rs (record {
+  pub first_hit : k < length rs → first rs ≡ (row_at rs k).number
+  first_hit l = first_in rs (record {
     place = k;
     number = refl;
     fails = ap (kept_at rs) e ∙ (found (kept_at rs) (length rs)).fails (omega arith);
@@ -129,7 +129,7 @@ module _ (rs : List Row) {k : ℕ} (e : k ≡ first_bad (kept_at rs) (length rs)
   })
 
   pub first_done : length rs ≤ k → first rs ≡ 0
-  first_done l = first-none rs (λ j. go j (dec_lt j (length rs)))
+  first_done l = first_none rs (λ j. go j (dec_lt j (length rs)))
     where
       go : (j : ℕ) → Dec (j < length rs) → kept_at rs j ≡ true
       go j (yes m) = (found (kept_at rs) (length rs)).each j (omega arith) (omega arith)

@@ -148,24 +148,24 @@ module _ (v : ℕ → Sides) (n : ℕ) where
     pub has : Bool
     pub b : ℕ
     pub top : Sides
-    pub is-top : Top has b top m
+    pub is_top : Top has b top m
 
   next : (m : ℕ) → m < n → (t : Topped m) (x : Bool) → better (v m) t.has t.top ≡ x → Topped (suc m)
   next m l t true e = record {
     has = true;
     b = m;
     top = v m;
-    is-top = rw add-one at (take t.has t.b t.top m t.is-top l e);
+    is_top = rw add-one at (take t.has t.b t.top m t.is_top l e);
   }
   next m l t false e = record {
     has = t.has;
     b = t.b;
     top = t.top;
-    is-top = rw add-one at (keep t.has t.b t.top m t.is-top l e);
+    is_top = rw add-one at (keep t.has t.b t.top m t.is_top l e);
   }
 
   pub tops : (m : ℕ) → m ≤ n → Topped m
-  tops zero l = record { has = false; b = 0; top = v 0; is-top = begin 0 (v 0) }
+  tops zero l = record { has = false; b = 0; top = v 0; is_top = begin 0 (v 0) }
   tops (suc m) l =
       let t = tops m (omega arith) in
       next m l t (better (v m) t.has t.top) refl

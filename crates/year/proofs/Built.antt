@@ -25,39 +25,39 @@ module _ (body : ℕ → List ℕ) where
   table : List ℕ
   table = gather month_count (entry_of body)
 
-  table-long : (n : ℕ) → length (gather n (entry_of body)) ≡ entry_size * n
+  table_long : (n : ℕ) → length (gather n (entry_of body)) ≡ entry_size * n
   unfolding entry_of
-  table-long n = length-gather entry_size n (entry_of body) (λ k l. refl)
+  table_long n = length-gather entry_size n (entry_of body) (λ k l. refl)
 
   -- the table and the bodies of the first months
   front_long : (m : ℕ) → length (table ++ gather m body) ≡ start_in body m
   unfolding start_in table
   front_long m =
-      length-append table (gather m body) ∙ ap₂ ◌+◌ (table-long month_count) (gather_long body m)
+      length-append table (gather m body) ∙ ap₂ ◌+◌ (table_long month_count) (gather_long body m)
 
-  pub ledger-long : length (ledger_of body) ≡ start_in body month_count
+  pub ledger_long : length (ledger_of body) ≡ start_in body month_count
   unfolding ledger_of table
-  ledger-long = front_long month_count
+  ledger_long = front_long month_count
 
   start_first : start_in body 0 ≡ contents_size month_count
   unfolding start_in sum_of
   start_first = refl
 
-  start-next : (m : ℕ) → start_in body (m + 1) ≡ start_in body m + length (body m)
+  start_next : (m : ℕ) → start_in body (m + 1) ≡ start_in body m + length (body m)
   unfolding start_in
-  start-next m = omega (arith, sum_more (λ k. length (body k)) 0 m, ap (λ (k : ℕ). length (body k)) (zero-add m))
+  start_next m = omega (arith, sum_more (λ k. length (body k)) 0 m, ap (λ (k : ℕ). length (body k)) (zero-add m))
 
   module _ (m : ℕ) (l : m < month_count) where
     -- the file from the entry of month m on
-    entry-from : drop (entry_size * m) (ledger_of body)
+    entry_from : drop (entry_size * m) (ledger_of body)
         ≡ entry_of body m ++ ((gather_cut month_count (entry_of body) m l).later ++ gather month_count body)
     unfolding ledger_of
-    entry-from =
+    entry_from =
         let c = gather_cut month_count (entry_of body) m l in
         ap (λ (t : List ℕ). drop (entry_size * m) (t ++ gather month_count body)) c.parts
         ∙ ap (drop (entry_size * m))
         (append_assoc (gather m (entry_of body)) (entry_of body m ++ c.later) (gather month_count body))
-        ∙ drop_at (gather m (entry_of body)) _ (entry_size * m) (table-long m)
+        ∙ drop_at (gather m (entry_of body)) _ (entry_size * m) (table_long m)
         ∙ append_assoc (entry_of body m) c.later (gather month_count body)
 
     -- the file, cut before the body of month m and after it
@@ -85,13 +85,13 @@ module _ (body : ℕ → List ℕ) (small : length (ledger_of body) < 4294967296
     unfolding body_start entry_of
     start_is =
         word_here (entry_size * m) (ledger_of body) (start_in body m) _ (omega (arith, fits body m l))
-        (entry-from body m l)
+        (entry_from body m l)
 
     size_is : body_size (ledger_of body) m ≡ length (body m)
     unfolding body_size entry_of
     size_is =
         word_here (entry_size * m + 4) (ledger_of body) (length (body m)) _ (omega (arith, fits body m l))
-        (sym (drop-drop 4 (entry_size * m) (ledger_of body)) ∙ ap (drop 4) (entry-from body m l))
+        (sym (drop-drop 4 (entry_size * m) (ledger_of body)) ∙ ap (drop 4) (entry_from body m l))
 
     pub body_is : body_of (ledger_of body) m ≡ body m
     unfolding body_of
@@ -102,13 +102,13 @@ module _ (body : ℕ → List ℕ) (small : length (ledger_of body) < 4294967296
         (drop_at (table body ++ gather m body) _ (start_in body m) (front_long body m))
         ∙ take_at (body m) _ (length (body m)) refl
 
-  pub contents-ok : contents_ok month_count (ledger_of body) ≡ true
-  contents-ok = right_ok month_count (ledger_of body) (record {
+  pub contents_is_ok : contents_ok month_count (ledger_of body) ≡ true
+  contents_is_ok = right_ok month_count (ledger_of body) (record {
     first = start_is 0 (omega arith) ∙ start_first body;
     follows = λ e l.
-        start_is (e + 1) (omega arith) ∙ start-next body e
+        start_is (e + 1) (omega arith) ∙ start_next body e
         ∙ sym (ap₂ ◌+◌ (start_is e (omega arith)) (size_is e (omega arith)));
     last =
-        ap₂ ◌+◌ (start_is 11 (omega arith)) (size_is 11 (omega arith)) ∙ sym (start-next body 11)
-        ∙ sym (ledger-long body);
+        ap₂ ◌+◌ (start_is 11 (omega arith)) (size_is 11 (omega arith)) ∙ sym (start_next body 11)
+        ∙ sym (ledger_long body);
   })

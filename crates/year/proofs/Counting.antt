@@ -9,14 +9,14 @@ pub record Hit (p : ℕ → Bool) (k s : ℕ) : Type 0 where
   pub is : s ≡ hits k p
 
 module _ (p : ℕ → Bool) where
-  pub hit-begin : Hit p 0 0
+  pub hit_begin : Hit p 0 0
   unfolding hits
-  hit-begin = record { few = omega arith; is = refl }
+  hit_begin = record { few = omega arith; is = refl }
 
   -- one place more; x is what the code adds, t its test
-  pub hit-more : (k s x : ℕ) (t : Bool) → Hit p k s → t ≡ p k → x ≡ cond t 1 0 → x ≤ 1 →
+  pub hit_more : (k s x : ℕ) (t : Bool) → Hit p k s → t ≡ p k → x ≡ cond t 1 0 → x ≤ 1 →
       Hit p (k + 1) (s + x)
-  hit-more k s x t h e d l = record {
+  hit_more k s x t h e d l = record {
     few = omega (arith, h.few);
     is = (λ i. h.is i + (d ∙ ap (λ (u : Bool). cond u 1 0) e) i) ∙ sym (hits_more k p);
   }

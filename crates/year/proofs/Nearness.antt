@@ -98,8 +98,8 @@ module _ (N c : ℕ) (some : 0 < c) where
   abbrev whole : ℕ
   whole = N / unit
 
-  unit-some : 0 < unit
-  unit-some = mul-pos some (pow_pos (drop 53 N c))
+  unit_some : 0 < unit
+  unit_some = mul-pos some (pow_pos (drop 53 N c))
 
   parts : whole * unit + N % unit ≡ N
   parts = div-add-mod' N unit
@@ -118,20 +118,20 @@ module _ (N c : ℕ) (some : 0 < c) where
   abbrev rounded : ℕ
   rounded = kept 53 N c * 2 ^ drop 53 N c
 
-  rounded-by : rounded * c ≡ kept 53 N c * unit
-  rounded-by =
+  rounded_by : rounded * c ≡ kept 53 N c * unit
+  rounded_by =
       mul_assoc (kept 53 N c) (2 ^ drop 53 N c) c
       ∙ ap (λ (x : ℕ). kept 53 N c * x) (mul_comm (2 ^ drop 53 N c) c)
 
   chosen : (apart (rounded * c) N ≤ N % unit) × (apart (rounded * c) N ≤ unit - N % unit)
   chosen =
-      rw rounded-by
+      rw rounded_by
       (subst (λ (x : ℕ). (apart (kept 53 N c * unit) x ≤ N % unit)
       × (apart (kept 53 N c * unit) x ≤ unit - N % unit)) parts
-      (near whole unit (N % unit) (compare (N % unit * 2) unit) (mod-lt N unit-some) (cmp (N % unit * 2) unit)))
+      (near whole unit (N % unit) (compare (N % unit * 2) unit) (mod-lt N unit_some) (cmp (N % unit * 2) unit)))
 
-  pub no-nearer : (q j : ℕ) → q < 2 ^ 53 → apart (rounded * c) N ≤ apart (q * 2 ^ j * c) N
-  no-nearer q j l = go (gap whole (drop 53 N c) q j l digits)
+  pub no_nearer : (q j : ℕ) → q < 2 ^ 53 → apart (rounded * c) N ≤ apart (q * 2 ^ j * c) N
+  no_nearer q j l = go (gap whole (drop 53 N c) q j l digits)
     where
       by : (x : ℕ) → x * 2 ^ drop 53 N c * c ≡ x * unit
       by x =
@@ -148,24 +148,24 @@ module _ (N c : ℕ) (some : 0 < c) where
             by (suc whole),
             suc-mul whole unit,
             parts,
-            mod-lt N unit-some,
+            mod-lt N unit_some,
             chosen.1,
           )
 
   -- and that is not much more than N / c
-  pub rounded-most : rounded ≤ 2 * (N / c) + 1
-  rounded-most =
+  pub rounded_most : rounded ≤ 2 * (N / c) + 1
+  rounded_most =
       let k = drop 53 N c in
       let e : N / c / 2 ^ k ≡ whole = div-div-eq-div-mul N c (2 ^ k) in
       let w : whole * 2 ^ k ≤ N / c = rw e at (div-mul-le_self (N / c) (2 ^ k)) in
       let one : rounded ≤ suc whole * 2 ^ k =
       mul-le-mul (nearest-le whole (compare (N % unit * 2) unit)) (le_refl (2 ^ k)) in
-      omega (arith, w, one, suc-mul whole (2 ^ k), unit-most (dec_lt 0 k))
+      omega (arith, w, one, suc-mul whole (2 ^ k), unit_most (dec_lt 0 k))
     where
-      unit-most : Dec (0 < drop 53 N c) → 2 ^ drop 53 N c ≤ N / c + 1
-      unit-most (yes l) =
+      unit_most : Dec (0 < drop 53 N c) → 2 ^ drop 53 N c ≤ N / c + 1
+      unit_most (yes l) =
           omega (arith, reached l, pow_mono {i = drop 53 N c} {j = 52 + drop 53 N c} (omega arith))
-      unit-most (no l) =
+      unit_most (no l) =
           let none : drop 53 N c ≡ 0 = omega (arith, l) in
           rw none (omega arith)
 
@@ -190,7 +190,7 @@ round_nearest d n some part = record {
   units = grid binary64 d n;
   value =
       round_val binary64 d n (fits_below (grid binary64 d n)
-      (twice_most (grid binary64 d n) (d * 2 ^ 1074 / n) (2 ^ 1074) (rounded-most (d * 2 ^ 1074) n some)
+      (twice_most (grid binary64 d n) (d * 2 ^ 1074 / n) (2 ^ 1074) (rounded_most (d * 2 ^ 1074) n some)
       (share_most d n (2 ^ 1074) some part)));
-  nearest = no-nearer (d * 2 ^ 1074) n some;
+  nearest = no_nearer (d * 2 ^ 1074) n some;
 }

@@ -59,19 +59,19 @@ below_all h = h
 -- n findings, d of them dismissed
 module _ (n d : ℕ) (some : 0 < n) (few : n ≤ count_most) (part : d ≤ n) where
   -- the 64-bit float nearest to d / n, ties to even
-  pub rate-nearest : rate_of n d ≡ round binary64 false d n
+  pub rate_nearest : rate_of n d ≡ round binary64 false d n
   unfolding of_int
-  rate-nearest =
+  rate_nearest =
       quotient _ _ d n some (round_whole binary64 false d (omega arith)) (round_whole binary64 false n (omega arith))
 
   -- 0 where none were dismissed, and only there: one of them is at least a part in 65,536
-  pub rate-none : d ≡ 0 → rate_of n d ≡ fin false 0 (pos 0)
+  pub rate_none : d ≡ 0 → rate_of n d ≡ fin false 0 (pos 0)
   unfolding round
-  rate-none e =
-      rate-nearest ∙ round_same binary64 false d n 0 1 some (omega arith) (rw e (zero-mul 1 ∙ sym (zero-mul n)))
+  rate_none e =
+      rate_nearest ∙ round_same binary64 false d n 0 1 some (omega arith) (rw e (zero-mul 1 ∙ sym (zero-mul n)))
 
-  pub none-rate : rate_of n d ≡ fin false 0 (pos 0) → d ≡ 0
-  none-rate e = go (dec_lt 0 d)
+  pub none_rate : rate_of n d ≡ fin false 0 (pos 0) → d ≡ 0
+  none_rate e = go (dec_lt 0 d)
     where
       least : 0 < d → T (le (round binary64 false 1 count_most) (round binary64 false d n))
       least l = round_mono binary64 1 count_most d n (omega arith) some (mul-le-mul {n₁ = 1} l few)
@@ -80,17 +80,17 @@ module _ (n d : ℕ) (some : 0 < n) (few : n ≤ count_most) (part : d ≤ n) wh
       go (no q) = omega (arith, q)
       go (yes l) =
           absurd (above_none (subst (λ (x : Float). T (le (round binary64 false 1 count_most) x))
-          (sym rate-nearest ∙ e) (least l)))
+          (sym rate_nearest ∙ e) (least l)))
 
   -- 1 where all were dismissed, and only there: one that was not is at least a part in 65,536
-  pub rate-all : d ≡ n → rate_of n d ≡ fin false 1 (pos 0)
+  pub rate_all : d ≡ n → rate_of n d ≡ fin false 1 (pos 0)
   unfolding round
-  rate-all e =
-      rate-nearest ∙ round_same binary64 false d n 1 1 some (omega arith)
+  rate_all e =
+      rate_nearest ∙ round_same binary64 false d n 1 1 some (omega arith)
       (rw e (mul-one n ∙ sym (one-mul n)))
 
-  pub all-rate : rate_of n d ≡ fin false 1 (pos 0) → d ≡ n
-  all-rate e = go (dec_lt d n)
+  pub all_rate : rate_of n d ≡ fin false 1 (pos 0) → d ≡ n
+  all_rate e = go (dec_lt d n)
     where
       most : d < n → T (le (round binary64 false d n) (round binary64 false 65535 count_most))
       most l = round_mono binary64 d n 65535 count_most some (omega arith) (omega arith)
@@ -99,7 +99,7 @@ module _ (n d : ℕ) (some : 0 < n) (few : n ≤ count_most) (part : d ≤ n) wh
       go (no q) = omega (arith, q)
       go (yes l) =
           absurd (below_all (subst (λ (x : Float). T (le x (round binary64 false 65535 count_most)))
-          (sym rate-nearest ∙ e) (most l)))
+          (sym rate_nearest ∙ e) (most l)))
 
 -- ---- its bits
 

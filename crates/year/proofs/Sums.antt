@@ -86,34 +86,34 @@ add_more f k m s x h e l =
 -- ---- pools of counted lines are small
 
 module _ (L : List Line) (h : Counted L) where
-  pool-small : (k n : ℕ) → k + n ≤ month_count → SmallPool (pool_of L k n)
+  pool_small : (k n : ℕ) → k + n ≤ month_count → SmallPool (pool_of L k n)
   unfolding pool_of
-  pool-small k n l = record {
+  pool_small k n l = record {
     few = omega (arith, sum_most (λ m. (line_at L m).findings) month_most k n (λ m q. h.few m (omega arith)));
     part = sum_least (λ m. (line_at L m).dismissed) (λ m. (line_at L m).findings) k n (λ m q. h.part m (omega arith));
   }
 
-  pub sides-small : (m : ℕ) → m < month_count → SmallSides (sides_at L m)
+  pub sides_small : (m : ℕ) → m < month_count → SmallSides (sides_at L m)
   unfolding sides_at
-  sides-small m l = record {
-    upto = pool-small 0 (m + 1) (omega arith);
-    later = pool-small (m + 1) (month_count - (m + 1)) (omega arith);
+  sides_small m l = record {
+    upto = pool_small 0 (m + 1) (omega arith);
+    later = pool_small (m + 1) (month_count - (m + 1)) (omega arith);
   }
 
 -- ---- and so are the products
 
 module _ {s : Sides} (h : SmallSides s) where
-  pub first-le : s.later.dismissed * s.upto.findings ≤ 2414739600
-  first-le = mul-le-mul {n₂ = 49140} (omega (arith, h.later.few, h.later.part)) h.upto.few
+  pub first_le : s.later.dismissed * s.upto.findings ≤ 2414739600
+  first_le = mul-le-mul {n₂ = 49140} (omega (arith, h.later.few, h.later.part)) h.upto.few
 
-  pub second-le : (s.upto.findings - s.upto.dismissed) * s.later.findings ≤ 2414739600
-  second-le = mul-le-mul {n₂ = 49140} (omega (arith, h.upto.few)) h.later.few
+  pub second_le : (s.upto.findings - s.upto.dismissed) * s.later.findings ≤ 2414739600
+  second_le = mul-le-mul {n₂ = 49140} (omega (arith, h.upto.few)) h.later.few
 
-  pub over-le : over s ≤ 4829479200
-  over-le = omega (arith, first-le, second-le)
+  pub over_le : over s ≤ 4829479200
+  over_le = omega (arith, first_le, second_le)
 
-  pub under-le : under s ≤ 2414739600
-  under-le = mul-le-mul h.later.few h.upto.few
+  pub under_le : under s ≤ 2414739600
+  under_le = mul-le-mul h.later.few h.upto.few
 
 pub cross_le : {a b : ℕ} → a ≤ 4829479200 → b ≤ 2414739600 → a * b ≤ 11661935000000000000
 cross_le p q = omega (arith, mul-le-mul p q)

@@ -4,7 +4,7 @@ use Rattle.wire.proofs.Usual.{◌≡◌, refl, sym, ap, ◌∙◌, subst, true, 
 use Rattle.wire.proofs.Usual.{zero-add}
 use borrow.Author.Tests.{leb-true, le-leb}
 use Rattle.wire.specs.Tables.{first, row_at}
-use Rattle.wire.proofs.Tables.{numbered, first-zero}
+use Rattle.wire.proofs.Tables.{numbered, first_zero}
 use Rattle.wire.proofs.Places.{all_each}
 use Rattle.wire.proofs.Packing.{hits_most, hits_part}
 use Rattle.contents.specs.Contents.{contents_size, contents_ok, body_of}
@@ -18,29 +18,29 @@ use Rattle.year.specs.Months.{found, dismissed, line_of}
 use Rattle.year.specs.Bends.{no_line, line_at}
 use Rattle.year.specs.Year.{month_line, lines_of}
 use Rattle.year.specs.Asks.{Small, Counted}
-use Rattle.year.proofs.Filling.{get_or_from}
+use Rattle.year.proofs.Filling.{get_or-from}
 
 module _ (F : List ℕ) (z : ledger_number F ≡ 0) where
   row_kept : (k : ℕ) → (row_at (ledger_table F) k).kept ≡ true
   unfolding ledger_number ledger_table numbered
-  row_kept = (first-zero (ledger_table F) refl).0 z
+  row_kept = (first_zero (ledger_table F) refl).0 z
 
-  pub taken-whole : months_ok Whole F ≡ true
+  pub taken_whole : months_ok Whole F ≡ true
   unfolding ledger_table
-  taken-whole = row_kept 2
+  taken_whole = row_kept 2
 
-  pub taken-values : months_ok Values F ≡ true
+  pub taken_values : months_ok Values F ≡ true
   unfolding ledger_table
-  taken-values = row_kept 3
+  taken_values = row_kept 3
 
-  pub taken-few : months_ok Few F ≡ true
+  pub taken_few : months_ok Few F ≡ true
   unfolding ledger_table
-  taken-few = row_kept 4
+  taken_few = row_kept 4
 
-  pub taken-small : Small F
+  pub taken_small : Small F
   unfolding months_ok kept_in
-  taken-small = record {
-    month = λ m l. leb-true (finding_count (body_of F m)) month_most (all_each (kept_in Few F) month_count taken-few m l);
+  taken_small = record {
+    month = λ m l. leb-true (finding_count (body_of F m)) month_most (all_each (kept_in Few F) month_count taken_few m l);
   }
 
 -- and what has all of it is accepted
@@ -53,22 +53,22 @@ taken_whenever F long contents months =
 -- ---- the lines
 
 module _ (c : Closings) (F : List ℕ) where
-  pub line-is : (m : ℕ) → m < month_count → line_at (lines_of c F) m ≡ month_line c F m
+  pub line_is : (m : ℕ) → m < month_count → line_at (lines_of c F) m ≡ month_line c F m
   unfolding lines_of
-  line-is m l = get_or_from no_line 0 month_count m (month_line c F) l ∙ ap (month_line c F) (zero-add m)
+  line_is m l = get_or-from no_line 0 month_count m (month_line c F) l ∙ ap (month_line c F) (zero-add m)
 
-  pub found-most : (m : ℕ) → found c (body_of F m) ≤ finding_count (body_of F m)
+  pub found_most : (m : ℕ) → found c (body_of F m) ≤ finding_count (body_of F m)
   unfolding found
-  found-most m = hits_most (finding_count (body_of F m)) _
+  found_most m = hits_most (finding_count (body_of F m)) _
 
-  pub dismissed-part : (m : ℕ) → dismissed c (body_of F m) ≤ found c (body_of F m)
+  pub dismissed_part : (m : ℕ) → dismissed c (body_of F m) ≤ found c (body_of F m)
   unfolding found dismissed
-  dismissed-part m = hits_part (finding_count (body_of F m)) _ _
+  dismissed_part m = hits_part (finding_count (body_of F m)) _ _
 
-  pub lines-counted : Small F → Counted (lines_of c F)
+  pub lines_counted : Small F → Counted (lines_of c F)
   unfolding month_line line_of
-  lines-counted h = record {
-    few = λ m l. subst (λ (x : Line). x.findings ≤ month_most) (sym (line-is m l))
-        (omega (arith, found-most m, h.month m l));
-    part = λ m l. subst (λ (x : Line). x.dismissed ≤ x.findings) (sym (line-is m l)) (dismissed-part m);
+  lines_counted h = record {
+    few = λ m l. subst (λ (x : Line). x.findings ≤ month_most) (sym (line_is m l))
+        (omega (arith, found_most m, h.month m l));
+    part = λ m l. subst (λ (x : Line). x.dismissed ≤ x.findings) (sym (line_is m l)) (dismissed_part m);
   }

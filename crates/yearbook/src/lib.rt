@@ -1,6 +1,8 @@
 // What is told of a ledger: its two tables, each with its bend, as lines on standard output, or `refused` with the
 // number (02, W4). The crate `year` measures, `report` makes a month's line from its numbers; here the text is put
 // together, and written at once.
+#![tactic(auto)]
+
 ghost use Rattle.std.specs.Prelude.{◌≡◌, ◌+◌, ◌*◌, ◌≤◌, length};
 ghost use Rattle.report.specs.Lines.{line_most, Printed, Put};
 ghost use Rattle.year.specs.Ledger.{month_count};
@@ -8,9 +10,11 @@ ghost use Rattle.yearbook.specs.Text.{title_of, month_text, bend_text, months_te
 ghost use Rattle.yearbook.specs.Text.{ledger_text, told_number};
 ghost use Rattle.yearbook.specs.Asks.{table_most, text_most};
 
-use libc::STDOUT_FILENO;
 use report::LINE_MOST;
 use year::{Bend, Closings, Line, MONTHS, Share, Table, Year};
+
+// The number of standard output.
+const STDOUT_FILENO: i32 = 1;
 
 // The program takes no larger ledger: 20.
 const FILE_MOST: usize = 65536;

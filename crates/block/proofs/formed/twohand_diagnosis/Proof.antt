@@ -8,5 +8,5 @@ pub twohand_diagnosis_spec : {M : Type 1} → statement M
 unfolding twohand_diagnosis
 twohand_diagnosis_spec = tie.close (tie.spec
     (λ c κs. search needs)
-    (λ c. rw (eq-eqb _ 4 c.before.if1.true) c.twohand-bits.ensures)
+    (λ c. rw (eq-eqb _ 4 c.before.if1.true) c.twohand_bits_are.ensures)
     (λ c. rw (ne_eqb _ 4 c.if1.false)))

@@ -1,6 +1,6 @@
 -- `casefile::channels::mark_blocks` meets its contract: each turn marks what the links of one block name.
 use Rattle.wire.proofs.Usual.{sym, ◌∙◌, subst, List, ℕ, ◌-◌, needs, now}
-use Rattle.casefile.proofs.Marking.{Marking, marking-begin, marking-more, marking-end}
+use Rattle.casefile.proofs.Marking.{Marking, marking_begin, marking_more, marking_end}
 use Rattle.project.specs.Project.{block_count, link_count}
 use Rattle.casefile.specs.Asks.{Marked}
 use Rattle.casefile.specs.Rules.{block_passes, link_passes}
@@ -21,7 +21,7 @@ loop_again c =
     let d = m.before.before.before in
     let r = m.before.block-record.ensures in
     let N = m.mark-links.new.0 in
-    marking-more d.before.loop.invariant d.loop-test.true m.mark-links.auto.0
+    marking_more d.before.loop.invariant d.loop-test.true m.mark-links.auto.0
     (subst (λ (R : List ℕ). Marked d.before.loop.marks N (λ b p. all (link_passes R b p) link_count)) r
     m.mark-links.ensures)
 
@@ -32,10 +32,10 @@ mark_blocks_spec = tie.close (tie.spec
     (λ c.
     let a = c.before.before in
     let B = now a.args.blocks in
-    marking-begin (block_passes B) (block_count B) (now a.args.marks) a.requires)
+    marking_begin (block_passes B) (block_count B) (now a.args.marks) a.requires)
     (λ c κs. search needs)
     (λ c κs. c.before.before.before.loop.invariant.long)
     (λ c. search needs) (λ c. search needs)
     loop_again
     (λ c. c.before.loop.invariant.long ∙ sym c.before.before.before.before.requires)
-    (λ c. marking-end c.before.loop.invariant c.loop-test.false))
+    (λ c. marking_end c.before.loop.invariant c.loop-test.false))

@@ -2,7 +2,7 @@
 use Rattle.wire.proofs.Usual.{sym, ◌∙◌, subst, ◌-◌, needs, now}
 use Rattle.project.specs.declared.Source.{Source}
 use Rattle.project.specs.Project.{link_count}
-use Rattle.casefile.proofs.Marking.{Marking, marking-begin, marking-more, marking-end}
+use Rattle.casefile.proofs.Marking.{Marking, marking_begin, marking_more, marking_end}
 use Rattle.casefile.specs.Asks.{Marked}
 use Rattle.casefile.specs.Rules.{link_passes, passes}
 use Rattle.casefile.proofs.channels.mark_links.Statement.{statement}
@@ -19,7 +19,7 @@ unfolding link_passes
 loop_again c =
     let m = c.before.before in
     let d = m.before.before.before in
-    marking-more d.before.loop.invariant d.loop-test.true m.mark-source.auto.0
+    marking_more d.before.loop.invariant d.loop-test.true m.mark-source.auto.0
     (subst (λ (s : Source). Marked d.before.loop.marks m.mark-source.new.0 (passes s))
     m.before.source_of.ensures m.mark-source.ensures)
 
@@ -29,10 +29,10 @@ mark_links_spec = tie.close (tie.spec
     invariant-loop decreases-loop
     (λ c.
     let a = c.before.before in
-    marking-begin (link_passes (now a.args.r)) link_count (now a.args.marks) a.requires)
+    marking_begin (link_passes (now a.args.r)) link_count (now a.args.marks) a.requires)
     (λ c κs. search needs)
     (λ c κs. c.before.before.before.loop.invariant.long)
     (λ c. search needs) (λ c. search needs)
     loop_again
     (λ c. c.before.loop.invariant.long ∙ sym c.before.before.before.before.requires)
-    (λ c. marking-end c.before.loop.invariant c.loop-test.false))
+    (λ c. marking_end c.before.loop.invariant c.loop-test.false))

@@ -2,7 +2,7 @@
 use Rattle.wire.proofs.Usual.{sym, ap, ◌∙◌, subst, ◌-◌, needs, now}
 use Rattle.project.specs.declared.Source.{Source}
 use Rattle.project.specs.declared.Source.TheVariants.{Output}
-use Rattle.casefile.proofs.Marking.{Marking, marking-begin, marking-more, marking-end}
+use Rattle.casefile.proofs.Marking.{Marking, marking_begin, marking_more, marking_end}
 use Rattle.project.specs.Project.{output_count, output_block_in, output_port_in}
 use Rattle.casefile.specs.Asks.{Marked}
 use Rattle.casefile.specs.Rules.{passes, output_passes}
@@ -25,7 +25,7 @@ loop_again c =
     let N = m.mark.new.0 in
     let block = m.before.before.output_block_is.ensures ∙ ap output_block_in here in
     let port = m.before.output-port.ensures ∙ ap output_port_in here in
-    marking-more d.before.loop.invariant d.loop-test.true m.mark.auto.0
+    marking_more d.before.loop.invariant d.loop-test.true m.mark.auto.0
     (subst (λ (s : Source). Marked d.before.loop.marks N (passes s)) (λ i. Output (block i) (port i))
     m.mark.ensures)
 
@@ -36,10 +36,10 @@ mark_outputs_spec = tie.close (tie.spec
     (λ c.
     let a = c.before.before in
     let O = now a.args.outputs in
-    marking-begin (output_passes O) (output_count O) (now a.args.marks) a.requires)
+    marking_begin (output_passes O) (output_count O) (now a.args.marks) a.requires)
     (λ c κs. search needs) (λ c κs. search needs) (λ c κs. search needs)
     (λ c κs. c.before.before.before.before.before.loop.invariant.long)
     (λ c. search needs) (λ c. search needs)
     loop_again
     (λ c. c.before.loop.invariant.long ∙ sym c.before.before.before.before.requires)
-    (λ c. marking-end c.before.loop.invariant c.loop-test.false))
+    (λ c. marking_end c.before.loop.invariant c.loop-test.false))

@@ -1,6 +1,6 @@
 -- `casefile::links::source_fits` meets its contract: what the link names says which case holds.
 use Rattle.wire.proofs.Usual.{sym, ap, ◌∙◌, ◌&&◌, eqb, needs}
-use mathlib.Core.Bool.{and_true}
+use mathlib.Core.Bool.{and-true}
 use Rattle.project.specs.Project.{input_type_in, input_group_in, kind_in, parameters_in}
 use Rattle.casefile.specs.Rules.{source_fits, source_typed, source_grouped}
 use Rattle.kind.specs.Ports.{type_in, type_out}
@@ -38,7 +38,7 @@ returns_3 c =
     let wanted = c.type-in2.ensures
     ∙ (λ i. type_in (c.before.before.kind-of3.ensures i) (c.before.parameters-of3.ensures i)
     a.args.port) in
-    rw s.given.1 ((λ i. eqb (given i) (wanted i)) ∙ sym (and_true _))
+    rw s.given.1 ((λ i. eqb (given i) (wanted i)) ∙ sym (and-true _))
 
 pub source_fits_spec : {M : Type 1} → statement M
 unfolding source_fits source_typed source_grouped

@@ -2,7 +2,7 @@
 use Rattle.wire.proofs.Usual.{◌≡◌, refl, ap, ◌∙◌, ◌-◌, ◌<◌, arith, needs, now}
 use lib.ListN.{get_or-replicate}
 use Rattle.wire.proofs.Places.{Passed, begin, more, hit, done}
-use Rattle.casefile.proofs.Numbers.{Seen, too_high, seen-before, not_seen, seen_more, seen_none}
+use Rattle.casefile.proofs.Numbers.{Seen, too_high, seen_before, not_seen, seen_more, seen_none}
 use Rattle.project.specs.Project.{block_count, order_in, order_of}
 use Rattle.casefile.specs.Rules.{order_ok}
 use Rattle.casefile.proofs.orders.first_bad_order.Statement.{statement}
@@ -50,7 +50,7 @@ first_bad_order_spec = tie.close (tie.spec
     let e = c.before in
     let d = e.before in
     let h = d.before.before.before.loop in
-    hit h.invariant.0 (seen-before _ _ _ _ h.invariant.1 (number d) e.if1.false (few e) c.if2.true) refl)
+    hit h.invariant.0 (seen_before _ _ _ _ h.invariant.1 (number d) e.if1.false (few e) c.if2.true) refl)
     (λ c. few c.before)
     (λ c. search needs) (λ c. search needs)
     loop_again

@@ -4,7 +4,7 @@ use Rattle.wire.specs.Places.{all}
 use Rattle.wire.proofs.Places.{all-is}
 use Rattle.project.specs.Project.{input_count, block_count, output_count}
 use Rattle.casefile.specs.Refusal.{refusal_of}
-use Rattle.casefile.proofs.Facts.{few-groups, inputs_whole, blocks_whole}
+use Rattle.casefile.proofs.Facts.{groups_are_few, inputs_whole, blocks_whole}
 use Rattle.casefile.proofs.table.keeps.Statement.{statement}
 use Rattle.casefile.proofs.table.keeps.Tie as tie
 
@@ -27,7 +27,7 @@ keeps_spec = tie.close (tie.spec
     (λ c κs.
     let a = c.before.before.before.before.before.before.before.before in
     let high : 5 < refusal_of a.args.r = rw c.enum-told14.given.1 (omega arith) in (
-      few-groups (now a.args.g) (a.requires.groups (omega arith)),
+      groups_are_few (now a.args.g) (a.requires.groups (omega arith)),
       (inputs_whole (now a.args.i) (a.requires.inputs (omega arith))).few,
     ))
     (λ c. rw c.before.enum_told.given.1 c.Size-ok.ensures)

@@ -3,7 +3,7 @@
 use Rattle.wire.proofs.Usual.{ap, ◌∙◌, arith, needs, ℕ, ◌+◌, now}
 use Rattle.report.specs.Decimal.{decimal}
 use Rattle.report.proofs.Decimal.{decimal_ten, decimal_some, decimal_small, decimal_more}
-use Rattle.report.proofs.Puts.{Behind, behind_none, behind-kept, behind-some, behind_more, behind_first}
+use Rattle.report.proofs.Puts.{Behind, behind_none, behind_kept, behind_some, behind_more, behind_first}
 use Rattle.report.proofs.pieces.put_decimal.Statement.{statement}
 use Rattle.report.proofs.pieces.put_decimal.Tie as tie
 
@@ -35,11 +35,11 @@ put_decimal_spec = tie.close (tie.spec
     (λ c.
     let a = c.before.before.args in
     behind_none (now a.out) a.at (decimal a.n) c.digit-count.ensures)
-    (λ c. omega (arith, behind-some c.before.loop.invariant (decimal_some _)))
+    (λ c. omega (arith, behind_some c.before.loop.invariant (decimal_some _)))
     (λ c. search needs) (λ c. search needs) (λ c κs. search needs) (λ c. search needs)
     (λ c.
     let put = c.before.before in
     behind_more put.before.before.before.loop.invariant _ (decimal_more _ (omega arith)) put.put_byte.ensures)
     (λ c. search needs) (λ c. search needs) (λ c κs. search needs)
-    (λ c. c.before.before.put-byte2.auto.0 ∙ behind-kept c.before.before.before.before.before.loop.invariant)
+    (λ c. c.before.before.put-byte2.auto.0 ∙ behind_kept c.before.before.before.before.before.loop.invariant)
     returns)

@@ -3,7 +3,7 @@
 use Rattle.wire.proofs.Usual.{ap, sym, subst, arith, needs, ℕ, ◌+◌, ◌-◌, now}
 use Rattle.report.specs.LedgerLines.{hexadecimal}
 use Rattle.report.proofs.Hexadecimal.{hex_length, hex_last, hex_first}
-use Rattle.report.proofs.Puts.{Behind, behind_none, behind-kept, behind_more, behind-all}
+use Rattle.report.proofs.Puts.{Behind, behind_none, behind_kept, behind_more, behind_all}
 use Rattle.report.proofs.pieces.put_hex.Statement.{statement}
 use Rattle.report.proofs.pieces.put_hex.Tie as tie
 
@@ -36,7 +36,7 @@ returns : tie.Need-returns invariant-loop decreases-loop
 returns c =
     let a = c.before.before.before.args in (
       record {
-        bytes = behind-all c.before.loop.invariant (hex_first a.at _ _ c.loop-test.false);
+        bytes = behind_all c.before.loop.invariant (hex_first a.at _ _ c.loop-test.false);
         place = ap (λ (k : ℕ). a.at + k) (sym (hex_length 16 a.bits));
       },
       search needs,
@@ -49,5 +49,5 @@ put_hex_spec = tie.close (tie.spec
     loop_holds
     (λ c. search needs) (λ c κs. search needs) (λ c κs. search needs) (λ c. search needs)
     loop_again
-    (λ c. behind-kept c.before.loop.invariant)
+    (λ c. behind_kept c.before.loop.invariant)
     returns)

@@ -2,23 +2,23 @@
 use Rattle.wire.proofs.Usual.{sym, ◌∙◌, ◌<◌, arith, lt-ltb}
 use Rattle.year.specs.Ledger.{month_count}
 use Rattle.year.specs.Bends.{largest, bend_of}
-use Rattle.year.proofs.Sums.{sides-small}
+use Rattle.year.proofs.Sums.{sides_small}
 use Rattle.year.proofs.Bending.{begin, take, keep, found, nothing}
 use Rattle.year.proofs.bends.bend_of.Goals as goal
 use Rattle.year.proofs.bends.bend_of.Goals.{then-is_better, else-is_better}
 
 pub loop-m-init : goal.loop-m-init
-loop-m-init c = (rw c.sides_at-top.ensures (sides-small _ c.requires 0 (omega arith)), begin _ _ _ _)
+loop-m-init c = (rw c.sides_at-top.ensures (sides_small _ c.requires 0 (omega arith)), begin _ _ _ _)
 
 pub is_better-requires : goal.is_better-requires
 is_better-requires c =
-    (rw c.sides_at-s.ensures (sides-small _ c.requires _ c.loop-m-test.true), c.loop-m.invariant.0)
+    (rw c.sides_at-s.ensures (sides_small _ c.requires _ c.loop-m-test.true), c.loop-m.invariant.0)
 
 pub loop-m-preserved : goal.loop-m-preserved
 loop-m-preserved c =
     elim c.if-is_better.branch [
       | then-is_better w ↦ rw (w.has-is, w.best-is, w.top-is, c.sides_at-s.ensures) (
-        sides-small _ c.requires _ c.loop-m-test.true,
+        sides_small _ c.requires _ c.loop-m-test.true,
         take _ _ _ _ _ _ c.loop-m.invariant.1 c.loop-m-test.true
             (rw c.sides_at-s.ensures at (sym c.is_better.ensures ∙ w.if-is_better.true)),
       )

@@ -1,0 +1,19 @@
+-- `numbers::sum` meets its contract: its exact result, settled.
+use Rattle.std.proofs.Common.{arith}
+use Rattle.numbers.specs.Results.{exact}
+use Rattle.numbers.specs.declared.Op.TheVariants.{Add}
+use Rattle.numbers.proofs.Operands.{small, settles}
+use Rattle.numbers.proofs.sum.Goals as goal
+
+pub plus-requires : goal.plus-requires
+plus-requires c = (
+  small c.args.ta c.args.a c.load-x.ensures (omega arith),
+  small c.args.tb c.args.b c.load-y.ensures (omega arith),
+)
+
+pub returns : goal.returns
+unfolding exact
+returns c =
+    let a = c.args in
+    settles Add a.ta a.a a.tb a.b a.t c.plus.result c.load-x.ensures c.load-y.ensures c.plus.ensures
+    c.settle.ensures
