@@ -98,7 +98,7 @@ pub fn bend_number(b: Bend) -> u8
 }
 
 // The table of an accepted ledger.
-#[tactic(auto, unfolding(crate::specs::Year::table_of))]
+#[tactic(auto, using(crate::proofs::Taken::lines_counted), unfolding(crate::specs::Year::table_of))]
 fn table_of(file: &[u8], c: Closings) -> Table
     requires { Small file.now }
     ensures { result ≡ table_of c file.now }
@@ -122,7 +122,7 @@ fn no_table() -> Table
 }
 
 // The whole answer.
-#[tactic(auto, unfolding(crate::specs::Year::year_of))]
+#[tactic(auto, using(crate::proofs::Taken::taken_small), unfolding(crate::specs::Year::year_of))]
 pub fn year_of(file: &[u8]) -> Year
     ensures { result ≡ year_of file.now }
 {

@@ -86,6 +86,7 @@ fn first_wrong(month: &[u8]) -> usize
 }
 
 // What is asked of a month.
+#[tactic(auto, unfolding(wire::specs::Places::all))]
 fn keeps(month: &[u8], a: MonthRule) -> bool
     ensures { result ≡ kept a month.now }
 {
@@ -110,6 +111,7 @@ fn first_broken(file: &[u8], a: MonthRule) -> u8
     m
 }
 
+#[tactic(auto, unfolding(crate::specs::Ledger::months_ok, wire::specs::Places::all))]
 fn months_ok(file: &[u8], a: MonthRule) -> bool
     ensures { result ≡ months_ok a file.now }
 {
