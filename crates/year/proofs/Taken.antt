@@ -12,7 +12,7 @@ use Rattle.year.specs.declared.Closings.{Closings}
 use Rattle.year.specs.declared.Line.{Line}
 use Rattle.year.specs.declared.rules.MonthRule.{MonthRule}
 use Rattle.year.specs.declared.rules.MonthRule.TheVariants.{Whole, Values, Few}
-use Rattle.year.specs.Ledger.{month_count, month_most, finding_count, kept, kept_in, months_ok, ledger_table}
+use Rattle.year.specs.Ledger.{month_count, month_most, finding_count, kept_in, months_ok, ledger_table}
 use Rattle.year.specs.Ledger.{ledger_number}
 use Rattle.year.specs.Months.{found, dismissed, line_of}
 use Rattle.year.specs.Bends.{no_line, line_at}

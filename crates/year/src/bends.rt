@@ -8,14 +8,14 @@ ghost use Rattle.year.specs.Asks.{Counted, SmallSides, better};
 use crate::{Bend, Line, MONTHS};
 
 // The findings of some months, and the dismissed ones.
-#[derive(Drop)]
+#[derive(Clone, Copy)]
 pub struct Pool {
     pub findings: u64,
     pub dismissed: u64,
 }
 
 // All months up to and with one, and all later ones.
-#[derive(Drop)]
+#[derive(Clone, Copy)]
 pub struct Sides {
     pub upto: Pool,
     pub later: Pool,
@@ -28,6 +28,7 @@ fn wide(x: u32) -> u64
 }
 
 // The months from `start` up to but not with `end`, pooled.
+#[tactic(auto, unfolding(crate::specs::Bends::pool_of))]
 fn pool_of(lines: [Line; MONTHS], start: usize, end: usize) -> Pool
     requires { start ≤ end × end ≤ month_count }
     ensures { result ≡ pool_of lines start (end - start) }
@@ -46,6 +47,7 @@ fn pool_of(lines: [Line; MONTHS], start: usize, end: usize) -> Pool
     }
 }
 
+#[tactic(auto, unfolding(crate::specs::Bends::sides_at))]
 fn sides_at(lines: [Line; MONTHS], m: usize) -> Sides
     requires { m < month_count }
     ensures { result ≡ sides_at lines m }
@@ -79,6 +81,7 @@ fn under_of(s: Sides) -> u64
 }
 
 // Whether the difference of s is larger than that of t.
+#[tactic(auto, unfolding(crate::specs::Bends::larger))]
 fn is_larger(s: Sides, t: Sides) -> bool
     requires { SmallSides s × SmallSides t }
     ensures { result ≡ larger s t }

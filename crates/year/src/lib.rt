@@ -1,6 +1,8 @@
 // A ledger of findings by month, and what is measured over its year: for each month how many findings there are, how
 // many were dismissed and the rate, and the month where the rate bent (02, W4). Every public function is total: a byte
 // past the end reads as 0.
+#![tactic(auto)]
+
 ghost use Rattle.std.specs.Prelude.{◌≡◌};
 ghost use Rattle.year.specs.Months.{share_of, bits_of};
 ghost use Rattle.year.specs.Bends.{bend_number};
@@ -16,14 +18,14 @@ pub use rules::check;
 pub const MONTHS: usize = 12;
 
 // Which closings a table is of: every one, or those by a person.
-#[derive(Drop)]
+#[derive(Clone, Copy)]
 pub enum Closings {
     Every,
     Person,
 }
 
 // A month's findings, the dismissed ones and the rate, 0 where it has none: `share_of` says whether it has one.
-#[derive(Drop)]
+#[derive(Clone, Copy)]
 pub struct Line {
     pub findings: u32,
     pub dismissed: u32,
@@ -31,7 +33,7 @@ pub struct Line {
 }
 
 // A month's share: its rate, or nothing where it has no finding.
-#[derive(Drop)]
+#[derive(Clone, Copy)]
 pub enum Share {
     Rate(f64),
     Nothing,
@@ -39,20 +41,20 @@ pub enum Share {
 
 // The month, from 1, where the dismissed share of all later months less that of all up to and with it is largest, or
 // nothing where no month has a finding on both sides.
-#[derive(Drop)]
+#[derive(Clone, Copy)]
 pub enum Bend {
     After(u8),
     Nothing,
 }
 
-#[derive(Drop)]
+#[derive(Clone, Copy)]
 pub struct Table {
     pub lines: [Line; MONTHS],
     pub bend: Bend,
 }
 
 // The number with which a ledger is turned down, or 0, and its two tables: with and without script closings.
-#[derive(Drop)]
+#[derive(Clone, Copy)]
 pub struct Year {
     pub number: u8,
     pub every: Table,
@@ -60,6 +62,7 @@ pub struct Year {
 }
 
 // The share of a line.
+#[tactic(auto, unfolding(crate::specs::Months::share_of))]
 pub fn share_of(l: Line) -> Share
     ensures { result ≡ share_of l }
 {
@@ -95,6 +98,7 @@ pub fn bend_number(b: Bend) -> u8
 }
 
 // The table of an accepted ledger.
+#[tactic(auto, using(crate::proofs::Taken::lines_counted), unfolding(crate::specs::Year::table_of))]
 fn table_of(file: &[u8], c: Closings) -> Table
     requires { Small file.now }
     ensures { result ≡ table_of c file.now }
@@ -105,6 +109,7 @@ fn table_of(file: &[u8], c: Closings) -> Table
 }
 
 // The table of one that was turned down.
+#[tactic(auto, unfolding(crate::specs::Year::no_table))]
 fn no_table() -> Table
     ensures { result ≡ no_table }
 {
@@ -117,6 +122,7 @@ fn no_table() -> Table
 }
 
 // The whole answer.
+#[tactic(auto, using(crate::proofs::Taken::taken_small), unfolding(crate::specs::Year::year_of))]
 pub fn year_of(file: &[u8]) -> Year
     ensures { result ≡ year_of file.now }
 {

@@ -8,7 +8,7 @@ ghost use Rattle.year.specs.Asks.{Small};
 use crate::{Closings, Line, MONTHS, rules};
 
 // How many findings of a month there are in a table, and how many dismissed ones.
-#[derive(Drop)]
+#[derive(Clone, Copy)]
 struct Counts {
     findings: u32,
     dismissed: u32,
@@ -37,6 +37,7 @@ fn one(so: bool) -> u32
     if so { 1 } else { 0 }
 }
 
+#[tactic(auto, unfolding(crate::specs::Months::found, crate::specs::Months::dismissed))]
 fn counts_of(month: &[u8], c: Closings) -> Counts
     requires { finding_count month.now ≤ month_most }
     ensures findings { result.findings ≡ found c month.now }
@@ -66,6 +67,7 @@ fn rate_of(findings: u32, dismissed: u32) -> f64
     (dismissed as f64) / (findings as f64)
 }
 
+#[tactic(auto, unfolding(crate::specs::Months::line_of))]
 pub fn line_of(findings: u32, dismissed: u32) -> Line
     ensures { result ≡ line_of findings dismissed }
 {
@@ -84,6 +86,7 @@ pub fn line_of(findings: u32, dismissed: u32) -> Line
 }
 
 // The line of month m.
+#[tactic(auto, unfolding(crate::specs::Year::month_line))]
 fn month_line(file: &[u8], c: Closings, m: usize) -> Line
     requires { Small file.now × m < month_count }
     ensures { result ≡ month_line c file.now m }

@@ -25,7 +25,7 @@ pub const VERDICT_AT: usize = 5;
 const MONTH_MOST: usize = 4095;
 
 // What is asked of each month: whole findings, right values, not too many.
-#[derive(Drop)]
+#[derive(Clone, Copy)]
 pub enum MonthRule {
     Whole,
     Values,
@@ -33,6 +33,7 @@ pub enum MonthRule {
 }
 
 // A month's body, as the contents table says.
+#[tactic(auto, unfolding(contents::specs::Contents::body_of))]
 pub fn body_of(file: &[u8], m: u8) -> &[u8]
     ensures { result.now ≡ body_of file.now m }
 {
@@ -42,12 +43,14 @@ pub fn body_of(file: &[u8], m: u8) -> &[u8]
 }
 
 // How many findings a month has, and the bytes of one.
+#[tactic(auto, unfolding(crate::specs::Ledger::finding_count))]
 pub fn finding_count(month: &[u8]) -> usize
     ensures { result ≡ finding_count month.now }
 {
     month.len() / FINDING_SIZE
 }
 
+#[tactic(auto, unfolding(crate::specs::Ledger::finding_count, crate::specs::Ledger::finding_at))]
 pub fn finding_at(month: &[u8], k: usize) -> &[u8]
     requires { k < finding_count month.now }
     ensures { result.now ≡ finding_at month.now k }
@@ -56,6 +59,7 @@ pub fn finding_at(month: &[u8], k: usize) -> &[u8]
 }
 
 // The values of a finding.
+#[tactic(auto, unfolding(crate::specs::Ledger::values_ok))]
 fn values_ok(f: &[u8]) -> bool
     ensures { result ≡ values_ok f.now }
 {
@@ -82,6 +86,7 @@ fn first_wrong(month: &[u8]) -> usize
 }
 
 // What is asked of a month.
+#[tactic(auto, unfolding(wire::specs::Places::all))]
 fn keeps(month: &[u8], a: MonthRule) -> bool
     ensures { result ≡ kept a month.now }
 {
@@ -106,6 +111,7 @@ fn first_broken(file: &[u8], a: MonthRule) -> u8
     m
 }
 
+#[tactic(auto, unfolding(crate::specs::Ledger::months_ok, wire::specs::Places::all))]
 fn months_ok(file: &[u8], a: MonthRule) -> bool
     ensures { result ≡ months_ok a file.now }
 {
@@ -113,6 +119,7 @@ fn months_ok(file: &[u8], a: MonthRule) -> bool
 }
 
 // The number with which a ledger is turned down, 0 where it is accepted.
+#[tactic(auto, unfolding(crate::specs::Ledger::ledger_number, crate::specs::Ledger::ledger_table, wire::specs::Tables::first))]
 pub fn check(file: &[u8]) -> u8
     ensures { result ≡ ledger_number file.now }
 {
