@@ -33,7 +33,7 @@ pub const BODY_T: u8 = 4;
 const BODIES: u8 = 5;
 
 // What a check answers: accepted, or turned down with a number.
-#[derive(Drop)]
+#[derive(Clone, Copy)]
 pub enum Verdict {
     Accepted,
     Refused(u8),

@@ -29,7 +29,7 @@ use project::{Counts, WORD_SIZE};
 pub const GROUPS_AT: usize = 0;
 
 // What a cycle call answers: the count of findings, or the number with which it was turned down.
-#[derive(Drop)]
+#[derive(Clone, Copy)]
 pub enum Answer {
     Findings(u32),
     Refused(u8),
@@ -115,7 +115,7 @@ pub fn cycle(
 }
 
 // What the buffers' sizes are, or the number with which the file was turned down.
-#[derive(Drop)]
+#[derive(Clone, Copy)]
 pub enum Sizes {
     Bytes {
         state: u32,
