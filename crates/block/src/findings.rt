@@ -71,14 +71,15 @@ fn finding_bytes(f: FindingRecord) -> [u8; FINDING_SIZE]
 pub fn finding(number: u8, group: u8, kind: u8, x: u32, y: u32, s: &[u8]) -> [u8; FINDING_SIZE]
     ensures { result ≡ finding_of number group kind x y s.now }
 {
+    let family = kind::family_of(kind);
     let diagnosis = diagnosis_of(s);
     finding_bytes(FindingRecord {
         block: number,
         group,
-        text: text_id(kind::family_of(kind), diagnosis),
+        text: text_id(family, diagnosis),
         diagnosis,
-        first: first_named(kind::family_of(kind), x, y),
-        second: second_named(kind::family_of(kind), x, y),
+        first: first_named(family, x, y),
+        second: second_named(family, x, y),
     })
 }
 

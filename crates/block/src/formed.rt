@@ -100,14 +100,11 @@ fn twohand_ok(l: Limits, c: BlockState) -> bool
 {
     let code = c.code;
     let output = c.output;
-    let first = l.first;
-    let second = l.second;
-    let between = l.between;
     (is_counting(code) | (code == STOP) | (code == ERROR) | (code == RESET))
         & twohand_diagnosis(l, code, c.diagnosis)
-        & pair_time_ok(first, code, c.first)
-        & pair_time_ok(second, code, c.second)
-        & entry_ok(between, code, c.entry)
+        & pair_time_ok(l.first, code, c.first)
+        & pair_time_ok(l.second, code, c.second)
+        & entry_ok(l.between, code, c.entry)
         & (output == 0)
 }
 

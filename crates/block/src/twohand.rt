@@ -170,9 +170,10 @@ fn twohand_run(p: &[u8], ms: u16, x: u32, old: BlockState) -> BlockState
     ensures { result ≡ twohand_run p.now ms x old }
 {
     let active = wide(kind::active_mask(p));
+    let l = kind::limits_of(p);
     judged(
-        kind::limits_of(p),
-        times_of(kind::limits_of(p), active, ms, x, old),
+        l,
+        times_of(l, active, ms, x, old),
         old.code,
         hands_of(active, x),
     )
