@@ -1,6 +1,6 @@
 /* Hagglethwait, a review evaluator for recorded safety projects: its calls for C and for every language that calls C.
  *
- * The library is target/staticlib/libhagglethwait.a (`rt staticlib hagglethwait`), for x86-64 Linux. It keeps nothing
+ * The library is target/staticlib/libhagglethwait.a (`examples/archive`), for x86-64 Linux. It keeps nothing
  * between calls, allocates nothing and calls nothing but memcpy and memset, and every call returns. Calls that write to
  * different buffers may run at the same time.
  *

@@ -1,4 +1,4 @@
-//! Links the static library, from the folder that HAGGLETHWAIT_LIB names or from where `rt staticlib hagglethwait`
+//! Links the static library, from the folder that HAGGLETHWAIT_LIB names or from where `examples/archive`
 //! puts it.
 
 use std::env;

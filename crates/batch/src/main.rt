@@ -46,7 +46,7 @@ const BROKEN_OFF: u8 = 2;
 const UNKNOWN: u8 = 3;
 
 // A buffer as it came: its length, 0 where it did not come, and what is wrong.
-#[derive(Drop)]
+#[derive(Clone, Copy)]
 struct Received {
     size: usize,
     fault: u8,

@@ -52,7 +52,9 @@ judged-plain l code h w =
 module _ (P : List ℕ) (ms x : ℕ) (old : BlockState) (w : is_waiting old.code ≡ false)
     (e : Even (active_mask P) x) where
   times_none : times_of (limits_of P) (active_mask P) ms x old ≡ none
-  times_none = rw (e.first, e.second, unpaired, unpaired, unwaited) refl
+  times_none =
+      let l = limits_of P in
+      rw (e.first, e.second, unpaired l.first old.first ms, unpaired l.second old.second ms, unwaited) refl
 
   pub steady : twohand_run P ms x old ≡ plain (next_code old.code (hands_of (active_mask P) x))
   unfolding twohand_run

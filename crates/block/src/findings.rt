@@ -42,6 +42,7 @@ fn second_named(family: Family, x: u32, y: u32) -> u32
 }
 
 // The bytes of a finding.
+#[tactic(auto, unfolding(crate::specs::Finding::finding_bytes))]
 fn finding_bytes(f: FindingRecord) -> [u8; FINDING_SIZE]
     ensures { result ≡ finding_bytes f }
 {
@@ -66,18 +67,18 @@ fn finding_bytes(f: FindingRecord) -> [u8; FINDING_SIZE]
 }
 
 // The finding of the block with this number, group and kind that read x and y, and whose bytes after the step are s.
+#[tactic(auto, unfolding(crate::specs::Finding::finding_of, crate::specs::Finding::said_of))]
 pub fn finding(number: u8, group: u8, kind: u8, x: u32, y: u32, s: &[u8]) -> [u8; FINDING_SIZE]
     ensures { result ≡ finding_of number group kind x y s.now }
 {
-    let family = kind::family_of(kind);
     let diagnosis = diagnosis_of(s);
     finding_bytes(FindingRecord {
         block: number,
         group,
-        text: text_id(family, diagnosis),
+        text: text_id(kind::family_of(kind), diagnosis),
         diagnosis,
-        first: first_named(family, x, y),
-        second: second_named(family, x, y),
+        first: first_named(kind::family_of(kind), x, y),
+        second: second_named(kind::family_of(kind), x, y),
     })
 }
 
@@ -89,6 +90,7 @@ pub fn is_finding(f: &[u8]) -> bool
 }
 
 // What the bytes of a finding say.
+#[tactic(auto, unfolding(crate::specs::Finding::finding_in))]
 pub fn read_finding(f: &[u8]) -> FindingRecord
     ensures { result ≡ finding_in f.now }
 {

@@ -20,6 +20,7 @@ fn untimed(c: BlockState) -> bool
     (c.first == 0) & (c.second == 0) & (c.entry == 0)
 }
 
+#[tactic(auto, unfolding(crate::specs::Formed::decouple_ok))]
 fn decouple_ok(c: BlockState) -> bool
     ensures { result ≡ decouple_ok c }
 {
@@ -43,6 +44,7 @@ fn arithmetic_diagnosis(code: u8, d: u16) -> bool
 }
 
 // t is the output's type.
+#[tactic(auto, unfolding(crate::specs::Formed::arithmetic_ok))]
 fn arithmetic_ok(t: u8, c: BlockState) -> bool
     ensures { result ≡ arithmetic_ok t c }
 {
@@ -56,6 +58,7 @@ fn arithmetic_ok(t: u8, c: BlockState) -> bool
 }
 
 // The diagnosis of a TWOHAND in ERROR.
+#[tactic(auto, unfolding(crate::specs::Formed::twohand_bits))]
 fn twohand_bits(l: Limits, d: u16) -> bool
     ensures { result ≡ twohand_bits l d }
 {
@@ -67,6 +70,7 @@ fn twohand_bits(l: Limits, d: u16) -> bool
         & ((d / 4 % 2 == 0) | (0 < l.between))
 }
 
+#[tactic(auto, unfolding(crate::specs::Formed::twohand_diagnosis))]
 fn twohand_diagnosis(l: Limits, code: u8, d: u16) -> bool
     ensures { result ≡ twohand_diagnosis l code d }
 {
@@ -76,31 +80,38 @@ fn twohand_diagnosis(l: Limits, code: u8, d: u16) -> bool
     d == 0
 }
 
+#[tactic(auto, unfolding(crate::specs::Formed::pair_time_ok))]
 fn pair_time_ok(d: u16, code: u8, time: u16) -> bool
     ensures { result ≡ pair_time_ok d code time }
 {
     ((time as u32) <= (d as u32) + 1) & ((time == 0) | ((0 < d) & is_counting(code)))
 }
 
+#[tactic(auto, unfolding(crate::specs::Formed::entry_ok))]
 fn entry_ok(t: u16, code: u8, time: u16) -> bool
     ensures { result ≡ entry_ok t code time }
 {
     (time <= t) & ((time == 0) | ((code == BUTTON1) | (code == BUTTON2)))
 }
 
+#[tactic(auto, unfolding(crate::specs::Formed::twohand_ok))]
 fn twohand_ok(l: Limits, c: BlockState) -> bool
     ensures { result ≡ twohand_ok l c }
 {
     let code = c.code;
     let output = c.output;
+    let first = l.first;
+    let second = l.second;
+    let between = l.between;
     (is_counting(code) | (code == STOP) | (code == ERROR) | (code == RESET))
         & twohand_diagnosis(l, code, c.diagnosis)
-        & pair_time_ok(l.first, code, c.first)
-        & pair_time_ok(l.second, code, c.second)
-        & entry_ok(l.between, code, c.entry)
+        & pair_time_ok(first, code, c.first)
+        & pair_time_ok(second, code, c.second)
+        & entry_ok(between, code, c.entry)
         & (output == 0)
 }
 
+#[tactic(auto, unfolding(crate::specs::Formed::formed))]
 fn formed(family: Family, p: &[u8], c: BlockState) -> bool
     ensures { result ≡ formed family p.now c }
 {
@@ -113,6 +124,7 @@ fn formed(family: Family, p: &[u8], c: BlockState) -> bool
 }
 
 // Whether a block's bytes are well formed.
+#[tactic(auto, unfolding(crate::specs::Formed::well_formed))]
 pub fn well_formed(kind: u8, p: &[u8], s: &[u8]) -> bool
     ensures { result ≡ well_formed kind p.now s.now }
 {

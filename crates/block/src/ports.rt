@@ -15,6 +15,7 @@ fn one_if(t: bool) -> u32
 }
 
 // TWOHAND's Error and TwoHandOut.
+#[tactic(auto, unfolding(crate::specs::Shows::shows_of))]
 fn twohand_shows(port: u8, s: &[u8]) -> u32
     ensures { result ≡ shows_of Twohand port s.now }
 {
@@ -25,6 +26,7 @@ fn twohand_shows(port: u8, s: &[u8]) -> u32
 }
 
 // Arithmetic's Error and AnalogOut.
+#[tactic(auto, unfolding(crate::specs::Shows::shows_of))]
 fn arithmetic_shows(port: u8, s: &[u8]) -> u32
     ensures { result ≡ shows_of Arithmetic port s.now }
 {
@@ -34,6 +36,7 @@ fn arithmetic_shows(port: u8, s: &[u8]) -> u32
     wire::read32(s, 12)
 }
 
+#[tactic(auto, unfolding(crate::specs::Shows::shows_of))]
 fn family_shows(family: Family, port: u8, s: &[u8]) -> u32
     ensures { result ≡ shows_of family port s.now }
 {
@@ -46,6 +49,7 @@ fn family_shows(family: Family, port: u8, s: &[u8]) -> u32
 }
 
 // What an output port shows, as the word of the port's type. No kind's outputs ask its parameters p.
+#[tactic(auto, unfolding(crate::specs::Shows::shows))]
 pub fn shows(kind: u8, p: &[u8], port: u8, s: &[u8]) -> u32
     ensures { result ≡ shows kind p.now port s.now }
 {

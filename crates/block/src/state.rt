@@ -47,6 +47,7 @@ pub fn running(output: u32) -> BlockState
 }
 
 // A block's state from fewer bytes than it has, or from any number of them.
+#[tactic(auto, unfolding(crate::specs::State::decode))]
 fn decoded_any(s: &[u8]) -> BlockState
     ensures { result ≡ decode s.now }
 {
@@ -61,6 +62,7 @@ fn decoded_any(s: &[u8]) -> BlockState
 }
 
 // A block's state from its bytes. Where they are all there, they are read at once.
+#[tactic(auto, unfolding(crate::specs::State::decode))]
 pub fn decoded(s: &[u8]) -> BlockState
     ensures { result ≡ decode s.now }
 {
@@ -78,6 +80,7 @@ pub fn decoded(s: &[u8]) -> BlockState
 }
 
 // The bytes of a block's state.
+#[tactic(auto, unfolding(crate::specs::State::encode))]
 fn encoded(c: BlockState) -> [u8; STATE_SIZE]
     ensures { result ≡ encode c }
 {
@@ -110,6 +113,7 @@ pub fn keep(s: &mut [u8], c: BlockState)
 }
 
 // The bytes before the first cycle.
+#[tactic(auto, unfolding(crate::specs::State::fresh_bytes))]
 pub fn fresh() -> [u8; STATE_SIZE]
     ensures { result ≡ fresh_bytes }
 {
@@ -117,6 +121,7 @@ pub fn fresh() -> [u8; STATE_SIZE]
 }
 
 // The block goes to STOP, as one of no kind would.
+#[tactic(auto, unfolding(crate::specs::State::fresh_bytes))]
 pub fn stop(s: &mut [u8])
     ensures { s.new ≡ sets s.old 0 fresh_bytes }
 {

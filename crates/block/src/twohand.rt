@@ -37,6 +37,7 @@ fn hands_of(active: u32, x: u32) -> Hands
 }
 
 // A pair's stored time with this cycle's.
+#[tactic(auto, unfolding(crate::specs::Twohand::pair_time))]
 fn pair_time(d: u16, differ: bool, stored: u16, ms: u16) -> u32
     ensures { result ≡ pair_time d differ stored ms }
 {
@@ -56,6 +57,7 @@ fn is_waiting(code: u8) -> bool
 }
 
 // The time since 11 or 12 was entered, with this cycle's.
+#[tactic(auto, unfolding(crate::specs::Twohand::time_since))]
 fn time_since(t: u16, code: u8, entry: u16, ms: u16) -> u32
     ensures { result ≡ time_since t code entry ms }
 {
@@ -81,6 +83,7 @@ fn changed_over(code: u8, h: Hands) -> bool
     ((code == BUTTON1) & h.full2 & !h.full1) | ((code == BUTTON2) & h.full1 & !h.full2)
 }
 
+#[tactic(auto, unfolding(crate::specs::Twohand::next_code))]
 fn next_code(code: u8, h: Hands) -> u8
     ensures { result ≡ next_code code h }
 {
@@ -114,6 +117,7 @@ fn next_code(code: u8, h: Hands) -> u8
 }
 
 // All errors that apply.
+#[tactic(auto, unfolding(crate::specs::Twohand::error_bits))]
 fn error_bits(l: Limits, t: Times, code: u8, h: Hands) -> u16
     ensures { result ≡ error_bits l t code h }
 {
@@ -124,6 +128,7 @@ fn error_bits(l: Limits, t: Times, code: u8, h: Hands) -> u16
 }
 
 // The next state where there is no error.
+#[tactic(auto, unfolding(crate::specs::Twohand::moved))]
 fn moved(code: u8, next: u8, t: Times) -> BlockState
     ensures { result ≡ moved code next t }
 {
@@ -148,6 +153,7 @@ fn moved(code: u8, next: u8, t: Times) -> BlockState
 }
 
 // Errors first, then the transition.
+#[tactic(auto, unfolding(crate::specs::Twohand::judged))]
 fn judged(l: Limits, t: Times, code: u8, h: Hands) -> BlockState
     ensures { result ≡ judged l t code h }
 {
@@ -159,20 +165,21 @@ fn judged(l: Limits, t: Times, code: u8, h: Hands) -> BlockState
 }
 
 // TWOHAND in phase RUN.
+#[tactic(auto, unfolding(crate::specs::Twohand::twohand_run))]
 fn twohand_run(p: &[u8], ms: u16, x: u32, old: BlockState) -> BlockState
     ensures { result ≡ twohand_run p.now ms x old }
 {
     let active = wide(kind::active_mask(p));
-    let l = kind::limits_of(p);
     judged(
-        l,
-        times_of(l, active, ms, x, old),
+        kind::limits_of(p),
+        times_of(kind::limits_of(p), active, ms, x, old),
         old.code,
         hands_of(active, x),
     )
 }
 
 // Whether the fault of a TWOHAND in ERROR is present.
+#[tactic(auto, unfolding(crate::specs::Twohand::twohand_fault))]
 fn twohand_fault(p: &[u8], d: u16, x: u32) -> bool
     ensures { result ≡ twohand_fault p.now d x }
 {
@@ -191,6 +198,7 @@ fn none_differs(active: u32, x: u32) -> bool
 }
 
 // The step in phase RUN. Where no pair differs and none is waited for, no time is counted and there is no error.
+#[tactic(auto, unfolding(crate::specs::State::decode, crate::specs::State::encode, crate::specs::State::enters_from))]
 fn run_step(p: &[u8], ms: u16, x: u32, s: &mut [u8]) -> bool
     ensures left { s.new ≡ sets s.old 0
         (encode (twohand_run p.now ms x (decode s.old))) }
@@ -210,6 +218,7 @@ fn run_step(p: &[u8], ms: u16, x: u32, s: &mut [u8]) -> bool
 }
 
 // The step of a TWOHAND that asks, in place; whether it enters ERROR.
+#[tactic(auto, unfolding(crate::specs::Step::twohand_bytes, crate::specs::Step::twohand_step, crate::specs::State::decode))]
 pub fn twohand_step(p: &[u8], phase: u8, ms: u16, x: u32, s: &mut [u8]) -> bool
     ensures left { s.new ≡ sets s.old 0
         (twohand_bytes p.now phase ms x s.old) }

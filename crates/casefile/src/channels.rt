@@ -31,6 +31,7 @@ fn mark(marks: &mut [u8], block: u8, port: u8)
     marks[PORTS * b + p] = 1;
 }
 
+#[tactic(auto, unfolding(crate::specs::Rules::passes))]
 fn mark_source(marks: &mut [u8], s: Source)
     requires { length marks.old ≡ mark_count }
     ensures { Marked marks.old marks.new (passes s) }
@@ -42,6 +43,7 @@ fn mark_source(marks: &mut [u8], s: Source)
     }
 }
 
+#[tactic(auto, unfolding(crate::specs::Rules::link_passes))]
 fn mark_links(marks: &mut [u8], r: &[u8])
     requires { length marks.old ≡ mark_count }
     ensures { Marked marks.old marks.new
@@ -54,6 +56,7 @@ fn mark_links(marks: &mut [u8], r: &[u8])
     }
 }
 
+#[tactic(auto, unfolding(crate::specs::Rules::block_passes, project::specs::Project::block_count))]
 fn mark_blocks(marks: &mut [u8], blocks: &[u8])
     requires { length marks.old ≡ mark_count }
     ensures { Marked marks.old marks.new
@@ -67,6 +70,7 @@ fn mark_blocks(marks: &mut [u8], blocks: &[u8])
     }
 }
 
+#[tactic(auto, unfolding(crate::specs::Rules::passes, crate::specs::Rules::output_passes, project::specs::Project::output_count))]
 fn mark_outputs(marks: &mut [u8], outputs: &[u8])
     requires { length marks.old ≡ mark_count }
     ensures { Marked marks.old marks.new
@@ -82,6 +86,7 @@ fn mark_outputs(marks: &mut [u8], outputs: &[u8])
 }
 
 // A DECOUPLE channel's input is linked exactly if its output is read.
+#[tactic(auto, unfolding(crate::specs::Rules::channel_rule_of))]
 fn channel_rule(r: &[u8], port: u8, read: u8) -> bool
     ensures { result ≡ channel_rule r.now port read }
 {
@@ -94,6 +99,7 @@ fn channel_rule(r: &[u8], port: u8, read: u8) -> bool
 }
 
 // The first wrong channel of block b by the marks, or 8.
+#[tactic(auto, unfolding(crate::specs::Asks::channel_by))]
 fn first_bad_channel(blocks: &[u8], marks: &[u8], b: usize) -> u8
     requires marks_len { length marks.now ≡ mark_count }
     requires b_bound { b < 64 }
@@ -111,6 +117,7 @@ fn first_bad_channel(blocks: &[u8], marks: &[u8], b: usize) -> u8
 }
 
 // The first block with a wrong channel by the marks, or how many blocks there are.
+#[tactic(auto, unfolding(crate::specs::Asks::channels_by, wire::specs::Places::all, project::specs::Project::block_count))]
 fn first_bad_channels(blocks: &[u8], marks: &[u8]) -> usize
     requires marks_len { length marks.now ≡ mark_count }
     requires blocks_bound { block_count blocks.now ≤ 64 }

@@ -1,6 +1,8 @@
 // What a case file is, and when it is turned down (01, "The case file" and "Turned down: numbers and order"). The file
 // is read through its table of contents, by the reader alone; everything else is over its bodies. Every public function
 // is total: a byte past the end reads as 0.
+#![tactic(auto)]
+
 ghost use Rattle.std.specs.Prelude.{◌≡◌};
 ghost use Rattle.project.specs.Project.{counts_in};
 ghost use Rattle.casefile.specs.Bodies.{project_of};
@@ -31,7 +33,7 @@ pub const BODY_T: u8 = 4;
 const BODIES: u8 = 5;
 
 // What a check answers: accepted, or turned down with a number.
-#[derive(Drop)]
+#[derive(Clone, Copy)]
 pub enum Verdict {
     Accepted,
     Refused(u8),

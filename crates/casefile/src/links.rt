@@ -10,6 +10,7 @@ use kind::Family;
 use project::Source;
 
 // A known kind and target, and no nonzero byte where none is allowed.
+#[tactic(auto, unfolding(crate::specs::Rules::link_known))]
 fn link_known(n: usize, blocks: &[u8], m: usize, r: &[u8], port: u8) -> bool
     requires { m ≡ block_count blocks.now }
     ensures { result ≡ link_known n blocks.now r.now port }
@@ -32,6 +33,7 @@ fn link_known(n: usize, blocks: &[u8], m: usize, r: &[u8], port: u8) -> bool
 }
 
 // Equal types, and no external input of another group; s is what the link names.
+#[tactic(auto, unfolding(crate::specs::Rules::source_fits, crate::specs::Rules::source_typed, crate::specs::Rules::source_grouped))]
 fn source_fits(inputs: &[u8], blocks: &[u8], r: &[u8], port: u8, s: Source) -> bool
     ensures { result ≡ source_fits inputs.now blocks.now r.now port s }
 {
@@ -63,6 +65,7 @@ pub fn link_bit(s: Source) -> u8
 }
 
 // Bit `port` of a mask of 4 bits.
+#[tactic(auto, unfolding(crate::specs::Rules::bit_of))]
 fn bit_of(mask: u8, port: u8) -> u8
     requires { port < 4 }
     ensures { result ≡ bit_of mask port }
@@ -76,6 +79,7 @@ fn bit_of(mask: u8, port: u8) -> u8
 }
 
 // A TWOHAND input is linked exactly if it is active.
+#[tactic(auto, unfolding(crate::specs::Rules::hand_active))]
 fn hand_active(r: &[u8], port: u8) -> bool
     ensures { result ≡ hand_active r.now port }
 {
@@ -86,6 +90,7 @@ fn hand_active(r: &[u8], port: u8) -> bool
         == bit_of(kind::active_mask(project::parameters_of(r)), port)
 }
 
+#[tactic(auto, unfolding(crate::specs::Rules::link_active_of))]
 fn link_active(r: &[u8], port: u8) -> bool
     ensures { result ≡ link_active r.now port }
 {
@@ -97,6 +102,7 @@ fn link_active(r: &[u8], port: u8) -> bool
     }
 }
 
+#[tactic(auto, unfolding(crate::specs::Rules::link_ok))]
 fn link_ok(inputs: &[u8], n: usize, blocks: &[u8], m: usize, r: &[u8], port: u8) -> bool
     requires n_value { n ≡ input_count inputs.now }
     requires m_value { m ≡ block_count blocks.now }
@@ -126,6 +132,7 @@ fn first_bad_link(inputs: &[u8], n: usize, blocks: &[u8], m: usize, r: &[u8]) ->
 }
 
 // The first block with a wrong link, or how many blocks there are.
+#[tactic(auto, unfolding(crate::specs::Rules::links_ok, wire::specs::Places::all, project::specs::Project::block_count, project::specs::Project::input_count))]
 pub fn first_bad_links(inputs: &[u8], blocks: &[u8]) -> usize
     ensures { result ≡ first_bad (links_ok inputs.now blocks.now)
         (block_count blocks.now) }

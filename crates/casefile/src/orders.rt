@@ -6,6 +6,7 @@ ghost use Rattle.casefile.specs.Rules.{order_ok};
 
 // The first block whose execution number is not below their number or stands at an earlier block, or how many there
 // are. A mark is 1 exactly if an earlier block has the number.
+#[tactic(auto, unfolding(project::specs::Project::block_count))]
 pub fn first_bad_order(blocks: &[u8]) -> usize
     requires { block_count blocks.now ≤ 64 }
     ensures { result ≡ first_bad (order_ok blocks.now) (block_count blocks.now) }

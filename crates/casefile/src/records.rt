@@ -8,12 +8,14 @@ ghost use Rattle.casefile.specs.Rules.{input_record_ok, blocks_size_ok, block_ru
 ghost use Rattle.casefile.specs.Rules.{output_rule, output_record_ok, trace_ok};
 
 // 3: 1 to 8 groups, and the device.
+#[tactic(auto, unfolding(crate::specs::Rules::groups_size_ok))]
 pub fn groups_size_ok(groups: &[u8]) -> bool
     ensures { result ≡ groups_size_ok groups.now }
 {
     (2 <= groups.len()) & (groups.len() <= 9) & kind::is_device(project::device_in(groups))
 }
 
+#[tactic(auto, unfolding(crate::specs::Rules::group_record_ok))]
 pub fn first_bad_group(groups: &[u8]) -> usize
     ensures { result ≡ first_bad (group_record_ok groups.now) (group_count groups.now) }
 {
@@ -30,18 +32,21 @@ pub fn first_bad_group(groups: &[u8]) -> usize
 }
 
 // 4: at most 128 whole records, and a record's fields.
+#[tactic(auto, unfolding(crate::specs::Rules::inputs_size_ok, project::specs::Project::input_count))]
 pub fn inputs_size_ok(inputs: &[u8]) -> bool
     ensures { result ≡ inputs_size_ok inputs.now }
 {
     (inputs.len() % project::INPUT_SIZE == 0) & (inputs.len() / project::INPUT_SIZE <= 128)
 }
 
+#[tactic(auto, unfolding(crate::specs::Rules::input_rule))]
 fn input_rule(groups: usize, r: &[u8]) -> bool
     ensures { result ≡ input_rule groups r.now }
 {
     ((project::input_group(r) as usize) < groups) & (project::input_type(r) <= kind::BOOL)
 }
 
+#[tactic(auto, unfolding(crate::specs::Rules::input_record_ok, project::specs::Project::input_count))]
 pub fn first_bad_input(groups: &[u8], inputs: &[u8]) -> usize
     ensures { result ≡ first_bad (input_record_ok groups.now inputs.now)
         (input_count inputs.now) }
@@ -59,6 +64,7 @@ pub fn first_bad_input(groups: &[u8], inputs: &[u8]) -> usize
 }
 
 // 5: 1 to 64 whole records, and a record's fields, links and execution number apart.
+#[tactic(auto, unfolding(crate::specs::Rules::blocks_size_ok, project::specs::Project::block_count))]
 pub fn blocks_size_ok(blocks: &[u8]) -> bool
     ensures { result ≡ blocks_size_ok blocks.now }
 {
@@ -66,6 +72,7 @@ pub fn blocks_size_ok(blocks: &[u8]) -> bool
     (blocks.len() % project::BLOCK_SIZE == 0) & (1 <= n) & (n <= 64)
 }
 
+#[tactic(auto, unfolding(crate::specs::Rules::block_rule))]
 fn block_rule(device: u8, groups: usize, r: &[u8]) -> bool
     ensures { result ≡ block_rule device groups r.now }
 {
@@ -74,6 +81,7 @@ fn block_rule(device: u8, groups: usize, r: &[u8]) -> bool
         & kind::parameters_ok(device, project::kind_of(r), project::parameters_of(r))
 }
 
+#[tactic(auto, unfolding(crate::specs::Rules::block_record_ok, project::specs::Project::block_count))]
 pub fn first_bad_block(groups: &[u8], blocks: &[u8]) -> usize
     ensures { result ≡ first_bad (block_record_ok groups.now blocks.now)
         (block_count blocks.now) }
@@ -92,12 +100,14 @@ pub fn first_bad_block(groups: &[u8], blocks: &[u8]) -> usize
 }
 
 // 8: at most 64 whole records, and a record's fields; `other` is the record of the block that it names.
+#[tactic(auto, unfolding(crate::specs::Rules::outputs_size_ok, project::specs::Project::output_count))]
 pub fn outputs_size_ok(outputs: &[u8]) -> bool
     ensures { result ≡ outputs_size_ok outputs.now }
 {
     (outputs.len() % project::OUTPUT_SIZE == 0) & (outputs.len() / project::OUTPUT_SIZE <= 64)
 }
 
+#[tactic(auto, unfolding(crate::specs::Rules::output_rule))]
 fn output_rule(groups: usize, blocks: usize, r: &[u8], other: &[u8]) -> bool
     ensures { result ≡ output_rule groups blocks r.now other.now }
 {
@@ -107,6 +117,7 @@ fn output_rule(groups: usize, blocks: usize, r: &[u8], other: &[u8]) -> bool
         & (project::group_of(other) == project::output_group(r))
 }
 
+#[tactic(auto, unfolding(crate::specs::Rules::output_record_ok, project::specs::Project::block_count, project::specs::Project::output_count))]
 pub fn first_bad_output(groups: &[u8], blocks: &[u8], outputs: &[u8]) -> usize
     ensures { result
         ≡ first_bad (output_record_ok groups.now blocks.now outputs.now)
@@ -128,6 +139,7 @@ pub fn first_bad_output(groups: &[u8], blocks: &[u8], outputs: &[u8]) -> usize
 }
 
 // 9: T is a whole number of records.
+#[tactic(auto, unfolding(crate::specs::Rules::trace_ok, project::specs::Project::record_size, project::specs::Project::input_count))]
 pub fn trace_ok(groups: &[u8], inputs: &[u8], records: &[u8]) -> bool
     requires groups_bound { group_count groups.now ≤ 8 }
     requires inputs_bound { input_count inputs.now ≤ 128 }

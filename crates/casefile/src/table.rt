@@ -11,7 +11,7 @@ use crate::{channels, links, orders, records};
 const CONTENTS_SIZE: usize = 40;
 
 // The rules that a file must keep, in any order: `TABLE` has theirs.
-#[derive(Drop)]
+#[derive(Clone, Copy)]
 pub enum Rule {
     Size,
     Contents,
@@ -48,6 +48,7 @@ const TABLE: [Rule; RULES] = [
     Rule::Trace,
 ];
 
+#[tactic(auto, unfolding(crate::specs::Refusal::rule_at))]
 pub fn rule_at(k: usize) -> Rule
     requires { k < rule_count }
     ensures { result ≡ rule_at k }
@@ -77,6 +78,7 @@ pub fn refusal_of(r: Rule) -> u8
 }
 
 // 1: the file's size.
+#[tactic(auto, unfolding(crate::specs::Rules::size_ok))]
 fn size_ok(file: &[u8]) -> bool
     ensures { result ≡ size_ok file.now }
 {
@@ -84,6 +86,7 @@ fn size_ok(file: &[u8]) -> bool
 }
 
 // The test of a rule, of the file and its bodies G, I, B, O and T.
+#[tactic(auto, unfolding(wire::specs::Places::all, project::specs::Project::input_count, project::specs::Project::block_count, project::specs::Project::output_count))]
 pub fn keeps(file: &[u8], g: &[u8], i: &[u8], b: &[u8], o: &[u8], t: &[u8], r: Rule) -> bool
     requires { Reached g.now i.now b.now r }
     ensures { result ≡ kept_by file.now g.now i.now

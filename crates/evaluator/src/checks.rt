@@ -81,6 +81,7 @@ fn first_unformed_cell(c: Counts, blocks: &[u8], state: &[u8]) -> usize
 }
 
 // 11: the state is well formed.
+#[tactic(auto, unfolding(wire::specs::Places::all))]
 pub fn state_ok(c: Counts, blocks: &[u8], state: &[u8]) -> bool
     requires { Whole blocks.now c.groups c.blocks }
     ensures { result ≡ formed_with c.groups blocks.now state.now }
@@ -91,6 +92,7 @@ pub fn state_ok(c: Counts, blocks: &[u8], state: &[u8]) -> bool
 }
 
 // 12: the first group with a wrong byte, or the number of groups.
+#[tactic(auto, unfolding(crate::specs::Answer::control_ok))]
 fn first_bad_control(c: Counts, groups: &[u8], rec: &[u8]) -> usize
     requires device_value { (c.device ≡ device groups.now) × (c.groups ≡ group_count groups.now) }
     requires groups_bound { group_count groups.now ≤ 8 }
@@ -111,6 +113,7 @@ fn first_bad_control(c: Counts, groups: &[u8], rec: &[u8]) -> usize
 }
 
 // 12: a word of its type. 0 and 1 are words of every type.
+#[tactic(auto, unfolding(block::specs::Shows::word_ok))]
 fn word_ok(t: u8, w: u32) -> bool
     ensures { result ≡ word_ok t w }
 {
@@ -147,6 +150,7 @@ fn first_bad_word(c: Counts, inputs: &[u8], rec: &[u8]) -> usize
 }
 
 // 12: the record is one of the project's.
+#[tactic(auto, unfolding(project::specs::Project::record_size, crate::specs::Answer::record_ok, wire::specs::Places::all))]
 pub fn record_ok(c: Counts, groups: &[u8], inputs: &[u8], rec: &[u8]) -> bool
     requires { Listed c groups.now inputs.now }
     ensures { result ≡ record_ok groups.now inputs.now rec.now }

@@ -49,6 +49,7 @@ fn is_acknowledged(byte: u8) -> bool
 }
 
 // A group's byte after the cycle.
+#[tactic(auto, unfolding(crate::specs::Groups::group_next))]
 fn group_next(pending: bool, ack: bool, old: u8) -> u8
     ensures { result ≡ group_next pending ack old }
 {
@@ -65,6 +66,7 @@ fn group_next(pending: bool, ack: bool, old: u8) -> u8
 }
 
 // A group's phase, from whether it is to run and its byte after the cycle.
+#[tactic(auto, unfolding(crate::specs::Groups::phase_from))]
 fn phase_from(run: bool, new: u8) -> u8
     ensures { result ≡ phase_from run new }
 {
@@ -87,6 +89,7 @@ fn runs_with(linked: u8, control: u8) -> bool
 }
 
 // The groups decide: their bytes in the state are the new ones, and the answer is their phases.
+#[tactic(auto, unfolding(crate::specs::Groups::phase_of))]
 pub fn decide(groups: &[u8], h: usize, rec: &[u8], errors: &[u8], state: &mut [u8]) -> [u8; 8]
     requires { (h ≤ 8) × (state_head h ≤ length state.old) }
     ensures left { state.new

@@ -9,6 +9,7 @@ use crate::parts::part_at;
 use project::{OUTPUT_SIZE, WORD_SIZE};
 
 // Each of the m outputs as 4 bytes: what its port shows in the state.
+#[tactic(auto, unfolding(project::specs::Project::row_of, crate::specs::Asks::output_shown))]
 pub fn write_outputs(
     blocks: &[u8],
     rows: &[u8],

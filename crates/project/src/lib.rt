@@ -37,7 +37,7 @@ const LINK_SIZE: usize = 3;
 pub const FILE_MOST: usize = 65536;
 
 // What an input port is linked to: nothing, an external input, or a block's output port.
-#[derive(Drop)]
+#[derive(Clone, Copy)]
 pub enum Source {
     Nothing,
     External(u8),
@@ -45,7 +45,7 @@ pub enum Source {
 }
 
 // The device, how many groups, external inputs, blocks and external outputs there are, and the size of a cycle record.
-#[derive(Drop)]
+#[derive(Clone, Copy)]
 pub struct Counts {
     pub device: u8,
     pub groups: usize,

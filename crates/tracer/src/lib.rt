@@ -27,7 +27,7 @@ const BLOCKS: usize = 64;
 
 // How a trace ends: the file or a record of it is turned down with a number, or all cycles have run, so many with so
 // many findings.
-#[derive(Drop)]
+#[derive(Clone, Copy)]
 pub enum End {
     Refused(u8),
     Ran(u32, u32),
