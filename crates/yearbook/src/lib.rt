@@ -41,6 +41,7 @@ fn title_line(out: &mut [u8], c: Closings) -> usize
 }
 
 // The line of a month, counted from 1.
+#[tactic(auto, unfolding(crate::specs::Text::month_text))]
 fn month_line(out: &mut [u8], month: u8, l: Line) -> usize
     ensures { Printed (month_text month l) out.old out.new result }
 {
@@ -66,6 +67,7 @@ fn bend_line(out: &mut [u8], b: Bend) -> usize
 }
 
 // The lines of the twelve months, from `at` on. Answers the place behind them.
+#[tactic(auto, unfolding(crate::specs::Text::months_text))]
 fn month_lines(out: &mut [u8], at: usize, lines: [Line; MONTHS]) -> usize
     requires { (at ≤ table_most + line_most) × (length out.old ≡ text_most) }
     ensures put { Put (months_text lines month_count) out.old at out.new result }
@@ -120,6 +122,7 @@ fn write_text(file: &[u8], text: &[u8])
 }
 
 // Tells of a ledger. Answers the number with which it is turned down, or 0.
+#[tactic(auto, using(report::proofs::Lines::printed_whole, report::proofs::Parts::put_whole), unfolding(crate::specs::Text::ledger_text, crate::specs::Text::told_number))]
 pub fn tell(file: &[u8]) -> u8
     ensures { result ≡ told_number file.now }
 {
