@@ -2,6 +2,8 @@
 // the ledger program a month and a bend. Each function stores its line at the front of the buffer and answers the
 // line's length. What lies past the end of the buffer is not stored; a buffer of `LINE_MOST` bytes takes every line
 // whole.
+#![tactic(auto)]
+
 ghost use Rattle.report.specs.Lines.{finding_line, end_line, refused_line, Printed};
 
 mod ledger;
