@@ -7,9 +7,13 @@
 
 ghost use Rattle.std.specs.Prelude.{◌≤◌, length};
 
-use itoa::Buffer;
 use numbers::{NumType, Op, Outcome};
-use std::io::{Read, Write};
+
+// The descriptor of standard input.
+const STDIN_FILENO: i32 = 0;
+
+// The descriptor of standard output.
+const STDOUT_FILENO: i32 = 1;
 
 // The operation that a vector's first byte names.
 fn op_of(b: u8) -> Op {
@@ -49,9 +53,10 @@ fn sign(neg: bool, out: &mut [u8], at: usize) -> usize {
 // The line of a word of type t.
 fn number_line(t: NumType, w: u32, out: &mut [u8], at: usize) -> usize {
     let v = numbers::load(t, w);
-    let mut text = Buffer::new();
+    let mut text = [0u8; 20];
+    let k = io::decimal(v.mag, &mut text);
     let start = sign(v.neg, out, at);
-    let end = append(text.format(v.mag).as_bytes(), out, start);
+    let end = append(&text[..k], out, start);
     append(b"\n", out, end)
 }
 
@@ -82,45 +87,28 @@ fn lines(vectors: &[u8], out: &mut [u8]) -> usize {
     at
 }
 
-// Fills the buffer from the input, and answers how many bytes it has: fewer than it has room for only where the input
-// ends. A read that fails ends the input.
-fn fill(input: &mut impl Read, space: &mut [u8]) -> usize
-    ensures { result ≤ length space.new }
-{
-    let mut done = 0;
-    while done < space.len() {
-        match input.read(&mut space[done..]) {
-            Ok(n) if n > 0 => done += n,
-            _ => return done,
-        }
-    }
-    done
-}
-
-// Writes the first bytes of a buffer to the output. What the output does not take is lost.
-fn print(output: &mut impl Write, out: &[u8], used: usize) {
+// Writes the first bytes of a buffer to standard output.
+fn print(out: &[u8], used: usize) {
     if used <= out.len() {
-        let _ = output.write_all(&out[0..used]);
+        io::write_all(STDOUT_FILENO, &out[0..used]);
     }
 }
 
 // Reads up to 186 vectors, prints their lines with one write, and answers whether there may be more. A line is at most
 // 22 bytes long, so that the lines have room.
-fn some(input: &mut impl Read, output: &mut impl Write) -> bool {
+fn some() -> bool {
     let mut vectors = [0u8; 2232];
-    let n = fill(input, &mut vectors);
-    let mut out = [0u8; 4096];
+    let n = io::read_full(STDIN_FILENO, &mut vectors);
+    let mut out = io::buffer();
     let used = lines(&vectors[..n], &mut out);
-    print(output, &out, used);
+    print(&out, used);
     n == 2232
 }
 
 // Nothing says that the input ends, so the loop counts its turns down, from a number that no run uses up.
-fn main(rt: HostRuntime) {
-    let mut input = rt.stdin();
-    let mut output = rt.stdout();
+fn main() {
     let mut turns = u64::MAX;
-    while turns > 0 && some(&mut input, &mut output) {
+    while turns > 0 && some() {
         turns -= 1;
     }
 }

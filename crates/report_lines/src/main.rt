@@ -5,9 +5,15 @@
 // word (4). Of the ledger program: the kind of line (3 a month with its rate, 4 a month with none, any other a bend),
 // the month, two bytes that are not read, the lower half of the rate's bits (4), the findings (4), the dismissed ones
 // (4), the higher half of the rate's bits (4). A record that is broken off ends the run.
+#![tactic(auto)]
+
 ghost use Rattle.std.specs.Prelude.{◌≤◌};
 
-use libc::{STDIN_FILENO, STDOUT_FILENO};
+// The descriptor of standard input.
+const STDIN_FILENO: i32 = 0;
+
+// The descriptor of standard output.
+const STDOUT_FILENO: i32 = 1;
 
 // The line of one record of the ledger program, in a buffer; answers how long it is.
 fn ledger_line(kind: u8, record: &[u8], out: &mut [u8]) -> usize
