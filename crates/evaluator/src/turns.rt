@@ -83,7 +83,6 @@ fn note(r: &[u8], b: usize, x: u32, y: u32, h: usize, state: &[u8], findings: &m
 
 // The turn of block b where it asks for its inputs, for each family; r is its record. They answer whether it enters
 // ERROR, which a DECOUPLE never does.
-#[tactic(auto, unfolding(block::specs::Step::decouple_bytes, block::specs::Step::decouple_step))]
 fn decouple_turn(
     blocks: &[u8],
     r: &[u8],

@@ -1,6 +1,5 @@
 -- `evaluator::turns::take_turns` meets its contract: each turn of the loop takes the state and the findings from one
--- stage to
--- the next (`Running`).
+-- stage to the next (`Running`).
 use Rattle.wire.proofs.Usual.{◌-◌}
 use Rattle.evaluator.proofs.Running.{Held}
 use Rattle.evaluator.proofs.turns.take_turns.Given as goal
