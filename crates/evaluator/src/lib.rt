@@ -36,7 +36,6 @@ pub enum Answer {
 }
 
 // The number with which a call is turned down, 0 where it is not. The starts are those of the file's bodies.
-#[tactic(auto, unfolding(crate::specs::State::state_formed))]
 fn call_refusal(
     file: &[u8],
     starts: Starts,
@@ -127,7 +126,6 @@ pub enum Sizes {
 }
 
 // The sizes of an accepted project's buffers.
-#[tactic(auto, unfolding(crate::specs::Fresh::sizes_of))]
 pub fn sizes_of(file: &[u8]) -> Sizes
     ensures { result ≡ sizes_of file.now }
 {
@@ -148,7 +146,6 @@ pub fn sizes_of(file: &[u8]) -> Sizes
 
 // The fresh state of an accepted project, into a buffer of the exact size. Answers 0, or the number with which the call
 // was turned down.
-#[tactic(auto, unfolding(crate::specs::Fresh::fresh_for))]
 pub fn fresh(file: &[u8], state: &mut [u8]) -> u8
     ensures answered { result ≡ fresh_number file.now state.old }
     ensures left { state.new ≡ fresh_left file.now state.old }
