@@ -5,7 +5,7 @@ use Rattle.wire.proofs.Usual.{drop, eqb}
 use Rattle.wire.specs.Words.{le32}
 use Rattle.wire.proofs.Records.{word_within}
 use Rattle.project.specs.declared.Counts.{Counts}
-use Rattle.project.specs.Project.{Project, row_of, device, group_count, input_size, input_count, input_type_in, block_size}
+use Rattle.project.specs.Project.{Project, row_of, group_count, input_size, input_count, input_type_in, block_size}
 use Rattle.project.specs.Project.{block_count, kind_in, parameters_in, head_size, word_size, record_size, size_counted}
 use Rattle.project.specs.Project.{output_count, counts_in}
 use Rattle.casefile.specs.Sound.{Sound, Shown}

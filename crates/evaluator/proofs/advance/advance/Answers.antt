@@ -1,10 +1,11 @@
 -- The parts' contracts come to the definitions of a cycle (`Checked`).
+use Rattle.wire.proofs.Usual.{arith}
 use Rattle.evaluator.proofs.Checked.{packable, all_count, all_findings, few_heads, heads_fit, no_count}
 use Rattle.evaluator.proofs.Checked.{no_findings, ran_state, running}
 use Rattle.evaluator.proofs.advance.advance.Goals as goal
 
 pub decide-phases-requires : goal.decide-phases-requires
-decide-phases-requires c = (few_heads c.requires, heads_fit c.requires)
+decide-phases-requires c = (omega (arith, few_heads c.requires), omega (arith, heads_fit c.requires))
 
 pub take_turns-some-requires : goal.take_turns-some-requires
 take_turns-some-requires c =

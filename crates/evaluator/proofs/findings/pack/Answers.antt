@@ -45,7 +45,7 @@ loop-b-preserved c =
     let kept : List ℕ → ℕ → Type 0 = λ d k. Kept finding_size (is_noted D) (note_in D) D d k (l.b + 1) in (
       omega arith,
       elim c.if-is_noted.branch [
-        then-is_noted w ↦
+        | then-is_noted w ↦
             subst₂ kept
             (sym (w.findings-is ∙ w.move_record.ensures ∙ ap (λ (v : List ℕ). sets
             (sets l.findings (finding_size * l.b) (replicate finding_size 0)) (finding_size * l.k) v)
@@ -53,7 +53,7 @@ loop-b-preserved c =
             (sym w.k-is)
             (kept_hit finding_size (is_noted D) (note_in D) D l.findings l.k l.b l.invariant.1
             fits (sym hit ∙ w.if-is_noted.true) (note_long D a.n l.b c.requires.long test))
-      | else-is_noted w ↦
+        | else-is_noted w ↦
             subst₂ kept (sym w.findings-is) (sym w.k-is)
             (kept_miss finding_size (is_noted D) (note_in D) D l.findings l.k l.b
             l.invariant.1 fits (sym hit ∙ w.if-is_noted.false) (c.requires.empty l.b test

@@ -2,7 +2,6 @@
 use Rattle.wire.proofs.Usual.{◌≡◌, ap₂, ◌∙◌, subst, arith}
 use Rattle.evaluator.specs.Groups.{runs_with, phase_from, phase_of}
 use Rattle.evaluator.proofs.Deciding.{Deciding, new_is, deciding_turn, deciding_state}
-use Rattle.evaluator.proofs.Deciding.{deciding_phases}
 use Rattle.evaluator.proofs.groups.decide.Goals as goal
 
 -- group g's byte, from what was read, and its phase

@@ -1,6 +1,6 @@
 -- After the block b the marks are those of the first b + 1 blocks.
-use Rattle.wire.proofs.Usual.{◌≡◌, sym, ap, ◌∙◌, subst, List, ℕ, ◌+◌, ◌<◌, arith, set}
-use Rattle.project.specs.Project.{group_in, group_of, block_count}
+use Rattle.wire.proofs.Usual.{◌≡◌, sym, ap, ◌∙◌, subst, List, ℕ, ◌+◌, arith, set}
+use Rattle.project.specs.Project.{group_in, block_count}
 use Rattle.block.specs.State.{is_error}
 use Rattle.evaluator.proofs.Reading.{cell-is, record_is}
 use Rattle.evaluator.proofs.Deciding.{Marked, marked_start, marked_miss, marked_hit, marked_end}

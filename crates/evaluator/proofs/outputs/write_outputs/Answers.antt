@@ -1,8 +1,8 @@
 -- After the turn of output o the first o + 1 words are written.
-use Rattle.wire.proofs.Usual.{◌≡◌, refl, ap, ◌∙◌, List, ℕ, ◌*◌, arith, sets}
+use Rattle.wire.proofs.Usual.{refl, ap, ◌∙◌, List, ℕ, ◌*◌, arith, sets}
 use Rattle.wire.specs.Words.{bytes4}
 use Rattle.wire.proofs.Records.{gathered_none, gathered_more}
-use Rattle.project.specs.Project.{output_block_in, output_port_in, row_of, output_record, output_block, word_size}
+use Rattle.project.specs.Project.{output_block_in, output_port_in, row_of, word_size}
 use Rattle.evaluator.specs.State.{cell}
 use Rattle.evaluator.specs.Cycle.{port_shows}
 use Rattle.evaluator.specs.Asks.{output_shown}
