@@ -2,7 +2,7 @@
 -- lent. `Post` is the function's contract, as its own crate has it: it says the words, and two that meet the same words
 -- are equal, by `second_answer`. The arguments stand in the function's order, in what is seen as they are at exit, and
 -- `r` is the result. Assumes nothing.
-use Rattle.wire.proofs.Usual.{◌≡◌, ℕ, List, Bool, now, sets, length, replicate, take, drop}
+use Rattle.wire.proofs.Usual.{◌≡◌, ℕ, List, Bool, sets, length, replicate, take, drop}
 use Rattle.numbers.proofs.Unique.{second_answer}
 use Rattle.wire.specs.Words.{bytes4}
 use Rattle.numbers.specs.Types.{value, type_of, signed, z_of}
@@ -116,14 +116,14 @@ gives = one (λ κs a x y. second_answer) (λ κs a r s p. p)
 
 pub wire_one :
     OneAnswer Rattle.wire.proofs.put.Reads.Post
-    (of3 (λ dst at src. Gives (sets (now dst) at (now src)))) (of3 (λ dst at src r. now dst))
+    (of3 (λ dst at src. Gives (sets dst.now at src.now))) (of3 (λ dst at src r. dst.now))
     × OneAnswer Rattle.wire.proofs.write32.Reads.Post
-    (of3 (λ s i w. Gives (sets (now s) i (bytes4 w)))) (of3 (λ s i w r. now s))
+    (of3 (λ s i w. Gives (sets s.now i (bytes4 w)))) (of3 (λ s i w r. s.now))
     × OneAnswer Rattle.wire.proofs.clear.Reads.Post
-    (of1 (λ s. Gives (replicate (length (now s)) 0))) (of1 (λ s r. now s))
+    (of1 (λ s. Gives (replicate (length s.now) 0))) (of1 (λ s r. s.now))
     × OneAnswer Rattle.wire.proofs.bytes32.Reads.Post (of1 (λ w. Gives (bytes4 w))) (λ κs s r. r)
     × OneAnswer Rattle.wire.proofs.part.Reads.Post
-    (of3 (λ s at size. Gives (take size (drop at (now s))))) (λ κs s r. now r)
+    (of3 (λ s at size. Gives (take size (drop at s.now)))) (λ κs s r. r.now)
 wire_one = (gives, gives, gives, gives, gives)
 
 pub numbers_one :
@@ -146,55 +146,55 @@ numbers_one = (gives, gives, gives, gives, gives, gives, gives, gives, gives)
 pub kind_one :
     OneAnswer Rattle.kind.proofs.device_of.Reads.Post (of1 (λ device. Gives (device_of device))) (λ κs s r. r)
     × OneAnswer Rattle.kind.proofs.family_of.Reads.Post (of1 (λ kind. Gives (family_of kind))) (λ κs s r. r)
-    × OneAnswer Rattle.kind.proofs.limits_of.Reads.Post (of1 (λ p. Gives (limits_of (now p)))) (λ κs s r. r)
+    × OneAnswer Rattle.kind.proofs.limits_of.Reads.Post (of1 (λ p. Gives (limits_of p.now))) (λ κs s r. r)
 kind_one = (gives, gives, gives)
 
 pub project_one :
     OneAnswer Rattle.project.proofs.counts_of.Reads.Post
-    (of4 (λ groups inputs blocks outputs. Gives (counts_of (now groups) (now inputs) (now blocks) (now outputs))))
+    (of4 (λ groups inputs blocks outputs. Gives (counts_of groups.now inputs.now blocks.now outputs.now)))
     (λ κs s r. r)
     × OneAnswer Rattle.project.proofs.source_of.Reads.Post
-    (of2 (λ rec port. Gives (link_in (now rec) port))) (λ κs s r. r)
+    (of2 (λ rec port. Gives (link_in rec.now port))) (λ κs s r. r)
     × OneAnswer Rattle.project.proofs.record_at.Reads.Post
-    (of3 (λ records size k. Gives (row_of size k (now records)))) (λ κs s r. now r)
+    (of3 (λ records size k. Gives (row_of size k records.now))) (λ κs s r. r.now)
     × OneAnswer Rattle.project.proofs.input_record.Reads.Post
-    (of2 (λ inputs i. Gives (row_of input_size i (now inputs)))) (λ κs s r. now r)
+    (of2 (λ inputs i. Gives (row_of input_size i inputs.now))) (λ κs s r. r.now)
     × OneAnswer Rattle.project.proofs.block_record.Reads.Post
-    (of2 (λ blocks b. Gives (row_of block_size b (now blocks)))) (λ κs s r. now r)
+    (of2 (λ blocks b. Gives (row_of block_size b blocks.now))) (λ κs s r. r.now)
     × OneAnswer Rattle.project.proofs.output_record.Reads.Post
-    (of2 (λ outputs o. Gives (row_of output_size o (now outputs)))) (λ κs s r. now r)
+    (of2 (λ outputs o. Gives (row_of output_size o outputs.now))) (λ κs s r. r.now)
     × OneAnswer Rattle.project.proofs.parameters_of.Reads.Post
-    (of1 (λ rec. Gives (parameters_in (now rec)))) (λ κs s r. now r)
+    (of1 (λ rec. Gives (parameters_in rec.now))) (λ κs s r. r.now)
 project_one = (gives, gives, gives, gives, gives, gives, gives)
 
 pub casefile_one :
-    OneAnswer Rattle.casefile.proofs.check.Reads.Post (of1 (λ file. Gives (verdict (now file)))) (λ κs s r. r)
+    OneAnswer Rattle.casefile.proofs.check.Reads.Post (of1 (λ file. Gives (verdict file.now))) (λ κs s r. r)
     × OneAnswer Rattle.casefile.proofs.counts_in.Reads.Post
-    (of1 (λ file. Gives (counts_in (project_of (now file))))) (λ κs s r. r)
+    (of1 (λ file. Gives (counts_in (project_of file.now)))) (λ κs s r. r)
     × OneAnswer Rattle.casefile.proofs.starts_of.Reads.Post
-    (of1 (λ file. Gives (starts_of (now file)))) (λ κs s r. r)
+    (of1 (λ file. Gives (starts_of file.now))) (λ κs s r. r)
     × OneAnswer Rattle.casefile.proofs.body.Reads.Post
-    (of3 (λ file starts e. Gives (stretch_of (now file) starts e))) (λ κs s r. now r)
+    (of3 (λ file starts e. Gives (stretch_of file.now starts e))) (λ κs s r. r.now)
 casefile_one = (gives, gives, one (λ κs a x y. second_answer) (λ κs a r s p. p.0), gives)
 
 pub block_one :
     OneAnswer Rattle.block.proofs.rest.Reads.Post
-    (of3 (λ phase ack s. Gives (sets (now s) 0 (rest_bytes phase ack (now s))))) (of3 (λ phase ack s r. now s))
+    (of3 (λ phase ack s. Gives (sets s.now 0 (rest_bytes phase ack s.now)))) (of3 (λ phase ack s r. s.now))
     × OneAnswer Rattle.block.proofs.stop.Reads.Post
-    (of1 (λ s. Gives (sets (now s) 0 fresh_bytes))) (of1 (λ s r. now s))
+    (of1 (λ s. Gives (sets s.now 0 fresh_bytes))) (of1 (λ s r. s.now))
     × OneAnswer Rattle.block.proofs.decouple_step.Reads.Post
-    (of3 (λ phase x s. TurnWords (decouple_bytes phase x) (now s)))
-    (of3 (λ phase x s r. record { answer = r; bytes = now s }))
+    (of3 (λ phase x s. TurnWords (decouple_bytes phase x) s.now))
+    (of3 (λ phase x s r. record { answer = r; bytes = s.now }))
     × OneAnswer Rattle.block.proofs.twohand_step.Reads.Post
-    (of5 (λ p phase ms x s. TurnWords (twohand_bytes (now p) phase ms x (now s)) (now s)))
-    (of5 (λ p phase ms x s r. record { answer = r; bytes = now s }))
+    (of5 (λ p phase ms x s. TurnWords (twohand_bytes p.now phase ms x s.now) s.now))
+    (of5 (λ p phase ms x s r. record { answer = r; bytes = s.now }))
     × OneAnswer Rattle.block.proofs.arithmetic_step.Reads.Post
-    (of6 (λ kind p phase x y s. TurnWords (arithmetic_bytes kind (now p) phase x y (now s)) (now s)))
-    (of6 (λ kind p phase x y s r. record { answer = r; bytes = now s }))
+    (of6 (λ kind p phase x y s. TurnWords (arithmetic_bytes kind p.now phase x y s.now) s.now))
+    (of6 (λ kind p phase x y s r. record { answer = r; bytes = s.now }))
     × OneAnswer Rattle.block.proofs.fresh.Reads.Post (λ κs a. Gives fresh_bytes) (λ κs s r. r)
     × OneAnswer Rattle.block.proofs.finding.Reads.Post
-    (of6 (λ number group kind x y s. Gives (finding_of number group kind x y (now s)))) (λ κs s r. r)
-    × OneAnswer Rattle.block.proofs.read_finding.Reads.Post (of1 (λ f. Gives (finding_in (now f)))) (λ κs s r. r)
+    (of6 (λ number group kind x y s. Gives (finding_of number group kind x y s.now))) (λ κs s r. r)
+    × OneAnswer Rattle.block.proofs.read_finding.Reads.Post (of1 (λ f. Gives (finding_in f.now))) (λ κs s r. r)
 block_one = (
   gives,
   gives,
@@ -209,22 +209,22 @@ block_one = (
 pub evaluator_one :
     OneAnswer Rattle.evaluator.proofs.cycle.Reads.Post
     (of5 (λ file rec state outputs findings.
-    CycleWords (λ n. n) (now file) (now rec) (lends (now state) (now outputs) (now findings))))
+    CycleWords (λ n. n) file.now rec.now (lends state.now outputs.now findings.now)))
     (of5 (λ file rec state outputs findings r.
-    record { answer = r; lent = lends (now state) (now outputs) (now findings) }))
+    record { answer = r; lent = lends state.now outputs.now findings.now }))
     × OneAnswer Rattle.evaluator.proofs.sizes_of.Reads.Post
-    (of1 (λ file. Gives (sizes_of (now file)))) (λ κs s r. r)
-    × OneAnswer Rattle.evaluator.proofs.fresh.Reads.Post (of2 (λ file state. FreshWords (now file) (now state)))
-    (of2 (λ file state r. record { answer = r; bytes = now state }))
+    (of1 (λ file. Gives (sizes_of file.now))) (λ κs s r. r)
+    × OneAnswer Rattle.evaluator.proofs.fresh.Reads.Post (of2 (λ file state. FreshWords file.now state.now))
+    (of2 (λ file state r. record { answer = r; bytes = state.now }))
     × OneAnswer Rattle.evaluator.proofs.unchecked.block_order.Reads.Post
-    (of2 (λ c blocks. Gives (order_list (now blocks)))) (λ κs s r. r)
+    (of2 (λ c blocks. Gives (order_list blocks.now))) (λ κs s r. r)
     × OneAnswer Rattle.evaluator.proofs.unchecked.groups_in_error.Reads.Post
-    (of3 (λ c blocks state. Gives (error_list c.groups (now blocks) (now state)))) (λ κs s r. r)
+    (of3 (λ c blocks state. Gives (error_list c.groups blocks.now state.now))) (λ κs s r. r)
     × OneAnswer Rattle.evaluator.proofs.unchecked.step.Reads.Post
     (of9 (λ c groups inputs blocks order errors rec state findings.
-    StepWords (now groups) (now inputs) (now blocks) (now rec) (now state) (now findings)))
+    StepWords groups.now inputs.now blocks.now rec.now state.now findings.now))
     (of9 (λ c groups inputs blocks order errors rec state findings r.
-    record { answer = r; state = now state; findings = now findings }))
+    record { answer = r; state = state.now; findings = findings.now }))
 evaluator_one = (
   one (λ κs a x y. cycle_same)
       (λ κs a r s p. record { answered = p.0; left = p.1.0; shown = p.1.1.0; told = p.1.1.1 }),
@@ -239,23 +239,23 @@ evaluator_one = (
 pub report_one :
     OneAnswer Rattle.report.proofs.finding_line.Reads.Post
     (of9 (λ out cycle block text diagnosis ta x tb y.
-    LineWords (finding_line cycle block text diagnosis ta x tb y) (now out)))
-    (of9 (λ out cycle block text diagnosis ta x tb y r. record { answer = r; bytes = now out }))
+    LineWords (finding_line cycle block text diagnosis ta x tb y) out.now))
+    (of9 (λ out cycle block text diagnosis ta x tb y r. record { answer = r; bytes = out.now }))
     × OneAnswer Rattle.report.proofs.end_line.Reads.Post
-    (of3 (λ out cycles findings. LineWords (end_line cycles findings) (now out)))
-    (of3 (λ out cycles findings r. record { answer = r; bytes = now out }))
+    (of3 (λ out cycles findings. LineWords (end_line cycles findings) out.now))
+    (of3 (λ out cycles findings r. record { answer = r; bytes = out.now }))
     × OneAnswer Rattle.report.proofs.refused_line.Reads.Post
-    (of2 (λ out number. LineWords (refused_line number) (now out)))
-    (of2 (λ out number r. record { answer = r; bytes = now out }))
+    (of2 (λ out number. LineWords (refused_line number) out.now))
+    (of2 (λ out number r. record { answer = r; bytes = out.now }))
     × OneAnswer Rattle.report.proofs.rate_line.Reads.Post
-    (of5 (λ out month findings dismissed bits. LineWords (rate_line month findings dismissed bits) (now out)))
-    (of5 (λ out month findings dismissed bits r. record { answer = r; bytes = now out }))
+    (of5 (λ out month findings dismissed bits. LineWords (rate_line month findings dismissed bits) out.now))
+    (of5 (λ out month findings dismissed bits r. record { answer = r; bytes = out.now }))
     × OneAnswer Rattle.report.proofs.no_rate_line.Reads.Post
-    (of4 (λ out month findings dismissed. LineWords (no_rate_line month findings dismissed) (now out)))
-    (of4 (λ out month findings dismissed r. record { answer = r; bytes = now out }))
+    (of4 (λ out month findings dismissed. LineWords (no_rate_line month findings dismissed) out.now))
+    (of4 (λ out month findings dismissed r. record { answer = r; bytes = out.now }))
     × OneAnswer Rattle.report.proofs.bend_line.Reads.Post
-    (of2 (λ out month. LineWords (bend_line month) (now out)))
-    (of2 (λ out month r. record { answer = r; bytes = now out }))
+    (of2 (λ out month. LineWords (bend_line month) out.now))
+    (of2 (λ out month r. record { answer = r; bytes = out.now }))
 report_one = (
   one (λ κs a x y. line_same) (λ κs a r s p. p),
   one (λ κs a x y. line_same) (λ κs a r s p. p),
@@ -267,32 +267,32 @@ report_one = (
 
 pub year_one :
     OneAnswer Rattle.year.proofs.share_of.Reads.Post (of1 (λ l. Gives (share_of l))) (λ κs s r. r)
-    × OneAnswer Rattle.year.proofs.year_of.Reads.Post (of1 (λ file. Gives (year_of (now file)))) (λ κs s r. r)
+    × OneAnswer Rattle.year.proofs.year_of.Reads.Post (of1 (λ file. Gives (year_of file.now))) (λ κs s r. r)
 year_one = (gives, gives)
 
 pub tracer_one :
-    OneAnswer Rattle.tracer.proofs.trace.Reads.Post (of1 (λ file. Gives (end_of (now file)))) (λ κs s r. r)
+    OneAnswer Rattle.tracer.proofs.trace.Reads.Post (of1 (λ file. Gives (end_of file.now))) (λ κs s r. r)
 tracer_one = gives
 
 pub hagglethwait_one :
     OneAnswer Rattle.hagglethwait.proofs.hagglethwait_sizes.Reads.Post
     (of4 (λ file state outputs findings.
-    SizesWords (now file) (now state) (now outputs) (now findings)))
+    SizesWords file.now state.now outputs.now findings.now))
     (of4 (λ file state outputs findings r.
-    record { answer = r; state = now state; outputs = now outputs; findings = now findings }))
+    record { answer = r; state = state.now; outputs = outputs.now; findings = findings.now }))
     × OneAnswer Rattle.hagglethwait.proofs.hagglethwait_fresh.Reads.Post
-    (of2 (λ file state. FreshWords (now file) (now state)))
-    (of2 (λ file state r. record { answer = r; bytes = now state }))
+    (of2 (λ file state. FreshWords file.now state.now))
+    (of2 (λ file state r. record { answer = r; bytes = state.now }))
     × OneAnswer Rattle.hagglethwait.proofs.hagglethwait_cycle.Reads.Post
     (of5 (λ file rec state outputs findings.
-    CycleWords answer_number (now file) (now rec) (lends (now state) (now outputs) (now findings))))
+    CycleWords answer_number file.now rec.now (lends state.now outputs.now findings.now)))
     (of5 (λ file rec state outputs findings r.
-    record { answer = r; lent = lends (now state) (now outputs) (now findings) }))
+    record { answer = r; lent = lends state.now outputs.now findings.now }))
     × OneAnswer Rattle.hagglethwait.proofs.hagglethwait_ledger.Reads.Post
     (of5 (λ file findings dismissed rates bends.
-    LedgerWords (now file) (columns (now findings) (now dismissed) (now rates) (now bends))))
+    LedgerWords file.now (columns findings.now dismissed.now rates.now bends.now)))
     (of5 (λ file findings dismissed rates bends r.
-    record { answer = r; lent = columns (now findings) (now dismissed) (now rates) (now bends) }))
+    record { answer = r; lent = columns findings.now dismissed.now rates.now bends.now }))
 hagglethwait_one = (
   one (λ κs a x y. sizes_same)
       (λ κs a r s p. record { answered = p.0; stated = p.1.0; shown = p.1.1.0; told = p.1.1.1 }),
