@@ -11,9 +11,9 @@ ghost use Rattle.year.specs.Year.{year_of};
 ghost use Rattle.hagglethwait.specs.Calls.{call_of, answer_number, state_said, outputs_said, findings_said};
 ghost use Rattle.hagglethwait.specs.Ledgers.{findings_left, dismissed_left, rates_left, bends_left};
 
-use evaluator::{Answer, Sizes};
 mod ledgers;
 
+use evaluator::{Answer, Sizes};
 pub use ledgers::PLACES;
 
 // 0 for a case file, or the number with which it is turned down.
@@ -25,12 +25,7 @@ pub fn hagglethwait_check(file: &[u8]) -> u8
 
 // The sizes of the three buffers of an accepted file's cycles. Answers 0, or the number with which the file is turned
 // down.
-pub fn hagglethwait_sizes(
-    file: &[u8],
-    state: &mut u32,
-    outputs: &mut u32,
-    findings: &mut u32,
-) -> u8
+pub fn hagglethwait_sizes(file: &[u8], state: &mut u32, outputs: &mut u32, findings: &mut u32) -> u8
     ensures answered { result ≡ sizes_number (sizes_of file.now) }
     ensures stated { state.new ≡ state_said (sizes_of file.now) state.old }
     ensures shown { outputs.new
