@@ -40,6 +40,7 @@ OWN = {
     "sizes-of": "sizes_are",
     "slot-getD": "slot_get_or",
     "told-number": "told_number_is",
+    "value-plain": "value_plain",
     "twohand-bits": "twohand_bits_are",
     "without-script": "without_script_is",
     "zero-at": "zero_at_is",
