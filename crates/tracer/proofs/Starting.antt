@@ -1,12 +1,13 @@
 -- What a fresh state that was written, or was not, says of its file, and what an accepted file's bodies and counts give
 -- to each call of a trace. Assumes nothing.
 use Rattle.wire.proofs.Usual.{◌≡◌, refl, sym, ap, ap₂, ◌∙◌, ◌≢◌, Bool, true, false, cond, ◌&&◌, List, [], ℕ}
-use Rattle.wire.proofs.Usual.{zero, suc, ◌/◌, ◌<◌, ◌≤◌, ℕ_discrete, arith, ltb, length, replicate, drop}
-use Rattle.wire.proofs.Usual.{length-drop}
+use Rattle.wire.proofs.Usual.{zero, suc, ◌+◌, ◌-◌, ◌*◌, ◌/◌, ◌<◌, ◌≤◌, ℕ_discrete, arith, ltb, length, replicate, take}
+use Rattle.wire.proofs.Usual.{drop, length-drop, length-take-le, length-replicate}
 use borrow.Author.Tests.{leb-true}
 use native.Mathlib.Nat.{div-le_self, min-le_right}
 use lib.Dec.{leb}
-use lib.ListN.{length-take}
+use lib.ListN.{length-take, replicate-append-replicate}
+use lib.Seq.{take_at}
 use Rattle.wire.specs.Tables.{first}
 use Rattle.wire.proofs.Places.{both_right}
 use Rattle.contents.specs.Contents.{contents_size, contents_ok, body_start, body_size, body_of}
@@ -18,10 +19,13 @@ use Rattle.casefile.specs.Rules.{size_ok}
 use Rattle.casefile.specs.Refusal.{file_table}
 use Rattle.casefile.proofs.Refusals.{number_zero, every}
 use Rattle.casefile.proofs.Accepted.{accepted}
-use Rattle.evaluator.specs.State.{state_length, findings_length, state_formed}
+use Rattle.block.specs.State.{state_size}
+use Rattle.block.specs.Finding.{finding_size}
+use Rattle.evaluator.specs.State.{state_head, state_length, findings_length, state_formed}
 use Rattle.evaluator.specs.Fresh.{fresh_number, fresh_left, fresh_for}
 use Rattle.evaluator.specs.Asks.{Standing, Grouped, Ordered, Listed, Begun, error_list}
-use Rattle.evaluator.proofs.Checking.{Taken, taken, groups_counted, blocks_counted, listed}
+use Rattle.evaluator.proofs.Checking.{Taken, taken, few, groups_counted, blocks_counted, listed, state_counted}
+use Rattle.evaluator.proofs.Checking.{notes_counted}
 use Rattle.evaluator.proofs.Checked.{standing, grouped, ordered}
 use Rattle.evaluator.proofs.FreshFormed.{fresh_refused, fresh_done}
 use Rattle.tracer.specs.declared.End.{End}
@@ -83,6 +87,32 @@ body_short F e = go (contents_ok body_count F && ltb e body_count)
 
 pub taken_of : (F : List ℕ) → first (file_table F) ≡ 0 → Taken (project_of F)
 taken_of F z = taken F (accepted F (number_zero F z))
+
+-- the front of an array of zeros
+zeros_front : (k n : ℕ) → k ≤ n → ◌≡◌ {A = List ℕ} (take k (replicate n 0)) (replicate k 0)
+zeros_front k n l =
+    let sum : k + (n - k) ≡ n = omega arith in
+    ap (take k) (sym (replicate-append-replicate k (n - k) 0 ∙ ap (λ (m : ℕ). replicate m 0) sum))
+    ∙ take_at (replicate k 0) (replicate (n - k) 0) k (length-replicate {A = ℕ} k 0)
+
+module _ (F : List ℕ) {c : Counts} (e : c ≡ counts_in (project_of F)) (z : first (file_table F) ≡ 0) where
+  -- the part of the state, of g groups and n blocks
+  pub state_sized : {g n : ℕ} → g ≤ 8 → n ≤ 64 → (c.groups ≤ 8 → g ≡ c.groups) → (c.blocks ≤ 64 → n ≡ c.blocks) →
+      length (take {A = ℕ} (state_head g + state_size * n) (replicate 1032 0))
+      ≡ state_length (project_of F).groups (project_of F).blocks
+  state_sized {g} {n} a b p q =
+      let t = taken_of F z in
+      length-take-le _ _ (omega (arith, length-replicate {A = ℕ} 1032 0))
+      ∙ ap₂ (λ (g n : ℕ). state_head g + state_size * n) (p (few e t).0) (q (few e t).1.0)
+      ∙ state_counted e t
+
+  -- that of the findings
+  pub findings_zero : {n : ℕ} → n ≤ 64 → (c.blocks ≤ 64 → n ≡ c.blocks) →
+      take {A = ℕ} (finding_size * n) (replicate 1024 0) ≡ replicate (findings_length (project_of F).blocks) 0
+  findings_zero {n} b q =
+      let t = taken_of F z in
+      zeros_front (finding_size * n) 1024 (omega arith)
+      ∙ ap (λ (n : ℕ). replicate n 0) (ap (λ (n : ℕ). finding_size * n) (q (few e t).1.0) ∙ notes_counted e t)
 
 -- it is no longer than 65,536 bytes, so it has no more records
 pub few_records : (F : List ℕ) → first (file_table F) ≡ 0 → record_count F ≤ 65536

@@ -161,9 +161,9 @@ module _ {F : List ℕ} {n k t : ℕ} {S : List ℕ} (h : Here F n k t S) (l : k
       zeros ∙ ap (λ (m : ℕ). replicate m 0) (sym (ap length zeros ∙ length-replicate {A = ℕ} n 0))
 
   -- a record that is taken
-  pub goes_on : first (file_table F) ≡ 0 → {a : Answer} {m : ℕ} {S1 D1 : List ℕ} → a ≡ Findings m →
+  pub continues : first (file_table F) ≡ 0 → {a : Answer} {m : ℕ} {S1 D1 : List ℕ} → a ≡ Findings m →
       Turned (call F k h.lent) a S1 D1 → Here F n (k + 1) (t + m) S1
-  goes_on z {a} {m} e u = record {
+  continues z {a} {m} e u = record {
     lent = (call F k h.lent).lent;
     state = u.state;
     sizes = (made z h).sizes;
