@@ -18,6 +18,8 @@ TOKEN = re.compile(r"[A-Za-z0-9_'₀-₉Σφ≤<≡≢-]+")
 MADE = re.compile(r"^(invariant|decreases)-")
 # words of std that stand first in lemmas of ours
 STD = {"length", "get_or", "take", "drop", "replicate", "sets", "set", "append", "cond", "eqb", "map"}
+# in one file alone, where a word that it uses gets the name of a lemma of its own
+LOCAL = {"crates/demands/proofs/Ledgers.antt": {"no_table": "no_table_is"}}
 # names that std has too, and imports of them stand beside ours
 SHARED = {"and-true"}
 # where the plain rule would let two names fall together, or a word would hide another
@@ -161,7 +163,7 @@ def main():
         if old is None:
             continue
         if path.endswith(".antt"):
-            new = respell(old, turned)
+            new = respell(respell(old, LOCAL.get(path, {})), turned)
         else:
             new, at = "", 0
             for a, b in ghost_spans(old):

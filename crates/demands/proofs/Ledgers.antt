@@ -36,15 +36,15 @@ no_share : share_of (line_of 0 0) ≡ Nothing
 unfolding share_of line_of
 no_share = refl
 
-no_table : NoTable no_table
+no_table_is : NoTable no_table
 unfolding no_table
-no_table = record { line = λ m l. get_or-from no_line 0 month_count m (λ _. line_of 0 0) l; share = no_share; bend = refl }
+no_table_is = record { line = λ m l. get_or-from no_line 0 month_count m (λ _. line_of 0 0) l; share = no_share; bend = refl }
 
 answered : (F : List ℕ) → LedgerAnswered F
 unfolding year_of ledger_number ledger_table rising
 answered F = record {
   number = by_table (ledger_table F) refl refl;
-  refused = λ h. rw (ne_eqb (ledger_number F) 0 h) (no_table, no_table);
+  refused = λ h. rw (ne_eqb (ledger_number F) 0 h) (no_table_is, no_table_is);
   accepted = λ z. rw (eq-eqb (ledger_number F) 0 z) (refl, refl);
 }
 
