@@ -10,8 +10,8 @@ pub returns-then-first_bad_link-ne-LINKS : goal.returns-then-first_bad_link-ne-L
 unfolding links_ok all block_count input_count
 returns-then-first_bad_link-ne-LINKS c =
     let links = c.first_bad_link.ensures
-        ∙ ap (λ (R : List ℕ). first_bad (link_ok c.args.inputs.now c.args.blocks.now R) link_count)
-        c.block_record-r.ensures in
+    ∙ ap (λ (R : List ℕ). first_bad (link_ok c.args.inputs.now c.args.blocks.now R) link_count)
+    c.block_record-r.ensures in
     hit c.loop-b.invariant (sym (is_not links c.if-first_bad_link-ne-LINKS.true)) refl
 
 pub returns : goal.returns
