@@ -18,7 +18,7 @@ mod ledgers;
 
 use evaluator::Answer;
 
-// The numbers of standard input, output and error.
+// The file descriptors of standard input, output and error.
 const STDIN_FILENO: i32 = 0;
 
 const STDOUT_FILENO: i32 = 1;

@@ -1,6 +1,6 @@
 // The ledger program: reads a ledger from standard input and tells of it (02, W4; the crate `yearbook`).
 #![tactic(auto)]
-// The number of standard input.
+// The file descriptor of standard input.
 const STDIN_FILENO: i32 = 0;
 
 fn main() {

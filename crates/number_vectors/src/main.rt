@@ -9,10 +9,10 @@ ghost use Rattle.std.specs.Prelude.{◌≤◌, length};
 
 use numbers::{NumType, Op, Outcome};
 
-// The descriptor of standard input.
+// The file descriptor of standard input.
 const STDIN_FILENO: i32 = 0;
 
-// The descriptor of standard output.
+// The file descriptor of standard output.
 const STDOUT_FILENO: i32 = 1;
 
 // The operation that a vector's first byte names.

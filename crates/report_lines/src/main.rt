@@ -9,10 +9,10 @@
 
 ghost use Rattle.std.specs.Prelude.{◌≤◌};
 
-// The descriptor of standard input.
+// The file descriptor of standard input.
 const STDIN_FILENO: i32 = 0;
 
-// The descriptor of standard output.
+// The file descriptor of standard output.
 const STDOUT_FILENO: i32 = 1;
 
 // The line of one record of the ledger program, in a buffer; answers how long it is.

@@ -1,7 +1,7 @@
 // The trace program: reads a case file from standard input and prints its trace (01, "The trace program"; the crate
 // `tracer`).
 #![tactic(auto)]
-// The number of standard input.
+// The file descriptor of standard input.
 const STDIN_FILENO: i32 = 0;
 
 fn main() {

@@ -17,7 +17,7 @@ use evaluator::{Answer, GROUPS_AT};
 use project::Counts;
 use report::LINE_MOST;
 
-// The number of standard output.
+// The file descriptor of standard output.
 const STDOUT_FILENO: i32 = 1;
 
 // An accepted file has at most so many groups and blocks.

@@ -1,7 +1,7 @@
 // Prints the traces of the case files of standard input, one after the other, each file after its length (4 bytes,
 // little endian), so that they can be compared with a second source. A file that is broken off ends the run.
 #![tactic(auto)]
-// The number of standard input.
+// The file descriptor of standard input.
 const STDIN_FILENO: i32 = 0;
 
 // The trace of the next file. Answers whether there was one.

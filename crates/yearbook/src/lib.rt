@@ -13,7 +13,7 @@ ghost use Rattle.yearbook.specs.Asks.{table_most, text_most};
 use report::LINE_MOST;
 use year::{Bend, Closings, Line, MONTHS, Share, Table, Year};
 
-// The number of standard output.
+// The file descriptor of standard output.
 const STDOUT_FILENO: i32 = 1;
 
 // The program takes no larger ledger: 20.
