@@ -27,6 +27,7 @@ OWN = {
     "contents-ok": "contents_is_ok",
     "end-number": "end_number_is",
     "few-groups": "groups_are_few",
+    "goes-on": "continues",
     "group-formed": "group_is_formed",
     "hex-value": "hex_value_is",
     "is-error": "error_is",
