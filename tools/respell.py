@@ -19,7 +19,10 @@ MADE = re.compile(r"^(invariant|decreases)-")
 # words of std that stand first in lemmas of ours
 STD = {"length", "get_or", "take", "drop", "replicate", "sets", "set", "append", "cond", "eqb", "map"}
 # in one file alone, where a word that it uses gets the name of a lemma of its own
-LOCAL = {"crates/demands/proofs/Ledgers.antt": {"no_table": "no_table_is"}}
+LOCAL = {
+    "crates/demands/proofs/Ledgers.antt": {"no_table": "no_table_is"},
+    "crates/tracer/proofs/Turning.antt": {"goes_on": "continues"},
+}
 # names that std has too, and imports of them stand beside ours
 SHARED = {"and-true"}
 # where the plain rule would let two names fall together, or a word would hide another
@@ -27,7 +30,6 @@ OWN = {
     "contents-ok": "contents_is_ok",
     "end-number": "end_number_is",
     "few-groups": "groups_are_few",
-    "goes-on": "continues",
     "group-formed": "group_is_formed",
     "hex-value": "hex_value_is",
     "is-error": "error_is",
