@@ -35,16 +35,16 @@ keeps-requires c =
 pub returns-then-not-keeps : goal.returns-then-not-keeps
 returns-then-not-keeps c =
     let kept = test _ c.starts_of-starts.ensures.are c.body-groups.ensures c.body-inputs.ensures
-        c.body-blocks.ensures c.body-outputs.ensures c.body-records.ensures c.loop-k.k c.loop-k-test.true
-        c.rule_at-r.ensures c.keeps.ensures in
+    c.body-blocks.ensures c.body-outputs.ensures c.body-records.ensures c.loop-k.k c.loop-k-test.true
+    c.rule_at-r.ensures c.keeps.ensures in
     ap Refused (c.refusal_of.ensures ∙ ap refusal_of c.rule_at-r.ensures)
     ∙ refused _ (hit c.loop-k.invariant kept c.if-not-keeps.true) c.loop-k-test.true
 
 pub loop-k-preserved : goal.loop-k-preserved
 loop-k-preserved c =
     let kept = test _ c.starts_of-starts.ensures.are c.body-groups.ensures c.body-inputs.ensures
-        c.body-blocks.ensures c.body-outputs.ensures c.body-records.ensures c.loop-k.k c.loop-k-test.true
-        c.rule_at-r.ensures c.keeps.ensures in
+    c.body-blocks.ensures c.body-outputs.ensures c.body-records.ensures c.loop-k.k c.loop-k-test.true
+    c.rule_at-r.ensures c.keeps.ensures in
     more c.loop-k.invariant c.loop-k-test.true kept c.if-not-keeps.false
 
 pub returns : goal.returns
