@@ -43,7 +43,6 @@ fn mark_source(marks: &mut [u8], s: Source)
     }
 }
 
-#[tactic(auto, unfolding(crate::specs::Rules::link_passes))]
 fn mark_links(marks: &mut [u8], r: &[u8])
     requires { length marks.old ≡ mark_count }
     ensures { Marked marks.old marks.new
@@ -56,7 +55,7 @@ fn mark_links(marks: &mut [u8], r: &[u8])
     }
 }
 
-#[tactic(auto, unfolding(crate::specs::Rules::block_passes, project::specs::Project::block_count))]
+#[tactic(auto, unfolding(project::specs::Project::block_count))]
 fn mark_blocks(marks: &mut [u8], blocks: &[u8])
     requires { length marks.old ≡ mark_count }
     ensures { Marked marks.old marks.new
@@ -70,7 +69,7 @@ fn mark_blocks(marks: &mut [u8], blocks: &[u8])
     }
 }
 
-#[tactic(auto, unfolding(crate::specs::Rules::passes, crate::specs::Rules::output_passes, project::specs::Project::output_count))]
+#[tactic(auto, unfolding(project::specs::Project::output_count))]
 fn mark_outputs(marks: &mut [u8], outputs: &[u8])
     requires { length marks.old ≡ mark_count }
     ensures { Marked marks.old marks.new
@@ -117,7 +116,7 @@ fn first_bad_channel(blocks: &[u8], marks: &[u8], b: usize) -> u8
 }
 
 // The first block with a wrong channel by the marks, or how many blocks there are.
-#[tactic(auto, unfolding(crate::specs::Asks::channels_by, wire::specs::Places::all, project::specs::Project::block_count))]
+#[tactic(auto, unfolding(project::specs::Project::block_count))]
 fn first_bad_channels(blocks: &[u8], marks: &[u8]) -> usize
     requires marks_len { length marks.now ≡ mark_count }
     requires blocks_bound { block_count blocks.now ≤ 64 }

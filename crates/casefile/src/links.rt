@@ -33,7 +33,6 @@ fn link_known(n: usize, blocks: &[u8], m: usize, r: &[u8], port: u8) -> bool
 }
 
 // Equal types, and no external input of another group; s is what the link names.
-#[tactic(auto, unfolding(crate::specs::Rules::source_fits, crate::specs::Rules::source_typed, crate::specs::Rules::source_grouped))]
 fn source_fits(inputs: &[u8], blocks: &[u8], r: &[u8], port: u8, s: Source) -> bool
     ensures { result ≡ source_fits inputs.now blocks.now r.now port s }
 {
@@ -132,7 +131,7 @@ fn first_bad_link(inputs: &[u8], n: usize, blocks: &[u8], m: usize, r: &[u8]) ->
 }
 
 // The first block with a wrong link, or how many blocks there are.
-#[tactic(auto, unfolding(crate::specs::Rules::links_ok, wire::specs::Places::all, project::specs::Project::block_count, project::specs::Project::input_count))]
+#[tactic(auto, unfolding(project::specs::Project::block_count, project::specs::Project::input_count))]
 pub fn first_bad_links(inputs: &[u8], blocks: &[u8]) -> usize
     ensures { result ≡ first_bad (links_ok inputs.now blocks.now)
         (block_count blocks.now) }

@@ -117,7 +117,7 @@ fn output_rule(groups: usize, blocks: usize, r: &[u8], other: &[u8]) -> bool
         & (project::group_of(other) == project::output_group(r))
 }
 
-#[tactic(auto, unfolding(crate::specs::Rules::output_record_ok, project::specs::Project::block_count, project::specs::Project::output_count))]
+#[tactic(auto, unfolding(project::specs::Project::block_count, project::specs::Project::output_count))]
 pub fn first_bad_output(groups: &[u8], blocks: &[u8], outputs: &[u8]) -> usize
     ensures { result
         ≡ first_bad (output_record_ok groups.now blocks.now outputs.now)
@@ -139,7 +139,7 @@ pub fn first_bad_output(groups: &[u8], blocks: &[u8], outputs: &[u8]) -> usize
 }
 
 // 9: T is a whole number of records.
-#[tactic(auto, unfolding(crate::specs::Rules::trace_ok, project::specs::Project::record_size, project::specs::Project::input_count))]
+#[tactic(auto, unfolding(project::specs::Project::input_count))]
 pub fn trace_ok(groups: &[u8], inputs: &[u8], records: &[u8]) -> bool
     requires groups_bound { group_count groups.now ≤ 8 }
     requires inputs_bound { input_count inputs.now ≤ 128 }

@@ -86,7 +86,6 @@ fn size_ok(file: &[u8]) -> bool
 }
 
 // The test of a rule, of the file and its bodies G, I, B, O and T.
-#[tactic(auto, unfolding(wire::specs::Places::all, project::specs::Project::input_count, project::specs::Project::block_count, project::specs::Project::output_count))]
 pub fn keeps(file: &[u8], g: &[u8], i: &[u8], b: &[u8], o: &[u8], t: &[u8], r: Rule) -> bool
     requires { Reached g.now i.now b.now r }
     ensures { result ≡ kept_by file.now g.now i.now

@@ -4,6 +4,7 @@ use Rattle.wire.specs.Places.{all}
 use Rattle.wire.proofs.Places.{hit, done, is_not}
 use Rattle.project.specs.Project.{block_count}
 use Rattle.casefile.specs.Asks.{channels_by}
+use Rattle.wire.proofs.Places.{more, is}
 use Rattle.casefile.proofs.channels.first_bad_channels.Goals as goal
 
 pub returns-then-first_bad_channel-ne-LINKS : goal.returns-then-first_bad_channel-ne-LINKS
@@ -15,3 +16,9 @@ returns-then-first_bad_channel-ne-LINKS c =
 pub returns : goal.returns
 unfolding block_count
 returns c = done c.loop-b.invariant c.loop-b-test.false
+
+pub loop-b-preserved : goal.loop-b-preserved
+unfolding channels_by all block_count
+loop-b-preserved c =
+    more c.loop-b.invariant c.loop-b-test.true
+    (sym (is c.first_bad_channel.ensures c.if-first_bad_channel-ne-LINKS.false)) refl

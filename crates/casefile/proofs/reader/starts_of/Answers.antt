@@ -1,15 +1,16 @@
 -- Where the table is right each field is what a callee read, and the last the file's length; the laws of `Stretches`
 -- say the rest.
-use Rattle.wire.proofs.Usual.{◌≡◌, ◌∙◌, length}
+use Rattle.std.proofs.lemmas.Grind.{common_steps}
+use Rattle.wire.proofs.Usual.{◌≡◌, ◌∙◌, length, false, arith}
 use Rattle.wire.proofs.Places.{ok, bad}
-use Rattle.casefile.specs.declared.reader.Starts.{Starts}
 use Rattle.casefile.specs.Bodies.{starts_of}
 use Rattle.casefile.proofs.Stretches.{starts_none, starts_own, both}
 use Rattle.casefile.proofs.reader.starts_of.Goals as goal
 
 pub returns-then-not-ok : goal.returns-then-not-ok
 returns-then-not-ok c =
-    let said = both _ (starts_none _ (bad c.ok.ensures c.if-not-ok.true)) in
+    let not_right : c.ok.result ≡ false = grind (arith, common_steps) in
+    let said = both _ (starts_none _ (bad c.ok.ensures not_right)) in
     record { are = said.0; within = said.1 }
 
 pub returns : goal.returns
