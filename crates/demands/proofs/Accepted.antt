@@ -7,7 +7,8 @@ use Rattle.kind.specs.Kinds.{family_of}
 use Rattle.kind.specs.Devices.{device_of}
 use Rattle.kind.specs.Parameters.{zeros_from, arithmetic_rule, parameters_fit, parameters_ok}
 use Rattle.contents.specs.Contents.{body_start, body_size, body_of, follows_ok, contents_ok}
-use Rattle.project.specs.Project.{row_of, device, group_count, run_linked, input_count, block_count, parameters_in, link_in}
+use Rattle.project.specs.Project.{row_of, device, group_count, run_linked, input_count, block_count, parameters_in}
+use Rattle.project.specs.Project.{link_in}
 use Rattle.project.specs.Project.{other_order, output_count, record_size}
 use Rattle.casefile.specs.declared.Verdict.TheVariants.{Accepted}
 use Rattle.casefile.specs.Bodies.{body_in}
@@ -23,9 +24,10 @@ use Rattle.demands.specs.Examples.{subtraction, as_numbered, otherwise}
 pub accepted_all : ((verdict listing ≡ Accepted) × (verdict subtraction ≡ Accepted))
     × ((verdict as_numbered ≡ Accepted) × (verdict otherwise ≡ Accepted))
 unfolding listing subtraction as_numbered otherwise verdict file_table first size_ok contents_ok follows_ok body_start
-    body_size body_of body_in row_of groups_size_ok group_record_ok inputs_size_ok input_record_ok input_rule blocks_size_ok
-    block_record_ok block_rule order_ok other_order links_ok link_ok link_known source_fits source_typed source_grouped
-    link_active_of outputs_size_ok output_record_ok output_rule channels_ok channel_ok channel_rule_of nothing_reads block_passes
-    link_passes output_passes passes trace_ok device group_count run_linked input_count block_count parameters_in link_in
-    output_count record_size first_bad all parameters_ok parameters_fit arithmetic_rule zeros_from family_of device_of
+    body_size body_of body_in row_of groups_size_ok group_record_ok inputs_size_ok input_record_ok input_rule
+    blocks_size_ok block_record_ok block_rule order_ok other_order links_ok link_ok link_known source_fits
+    source_typed source_grouped link_active_of outputs_size_ok output_record_ok output_rule channels_ok channel_ok
+    channel_rule_of nothing_reads block_passes link_passes output_passes passes trace_ok device group_count run_linked
+    input_count block_count parameters_in link_in output_count record_size first_bad all parameters_ok parameters_fit
+    arithmetic_rule zeros_from family_of device_of
 accepted_all = ((refl, refl), (refl, refl))

@@ -22,7 +22,8 @@ use Rattle.evaluator.specs.Net.{words, seen}
 use Rattle.evaluator.specs.State.{cell, state_formed}
 use Rattle.evaluator.specs.Groups.{phase}
 use Rattle.wire.specs.Packed.{entries, hits, packed}
-use Rattle.evaluator.specs.Cycle.{net, ran, turned_from, wires, new_block, words_read, new_findings, enters, finding_for}
+use Rattle.evaluator.specs.Cycle.{net, ran, turned_from, wires, new_block, words_read, new_findings, enters}
+use Rattle.evaluator.specs.Cycle.{finding_for}
 use Rattle.evaluator.specs.Cycle.{finding, finding_count}
 use Rattle.evaluator.specs.Answer.{Lent, Left, refusal, leaves, cycle_of}
 use Rattle.evaluator.proofs.Agree.{unique}

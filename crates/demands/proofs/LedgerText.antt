@@ -17,9 +17,9 @@ use Rattle.yearbook.specs.Text.{month_text, months_text, table_text, year_text, 
 use Rattle.demands.specs.LedgerExample.{example_ledger, lines_of, example_prints}
 
 pub example_text : ledger_text example_ledger ≡ example_prints
-unfolding example_ledger lines_of codes ledger_text year_text table_text months_text month_text year_of table_of table_lines
-    month_line bend_of largest larger sides_at pool_of sum_of line_of share_of found dismissed ledger_number ledger_table
-    months_ok kept_in values_ok finding_at finding_count bend_line no_rate_line rate_line month_front hexadecimal decimal
-    digits_within contents_ok follows_ok body_of body_size body_start hits first all first_bad div of_int round to_bits
-    of_bits eq
+unfolding example_ledger lines_of codes ledger_text year_text table_text months_text month_text year_of table_of
+    table_lines month_line bend_of largest larger sides_at pool_of sum_of line_of share_of found dismissed
+    ledger_number ledger_table months_ok kept_in values_ok finding_at finding_count bend_line no_rate_line rate_line
+    month_front hexadecimal decimal digits_within contents_ok follows_ok body_of body_size body_start hits first all
+    first_bad div of_int round to_bits of_bits eq
 example_text = refl

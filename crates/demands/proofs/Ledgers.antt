@@ -38,7 +38,11 @@ no_share = refl
 
 no_table_is : NoTable no_table
 unfolding no_table
-no_table_is = record { line = λ m l. get_or-from no_line 0 month_count m (λ _. line_of 0 0) l; share = no_share; bend = refl }
+no_table_is = record {
+  line = λ m l. get_or-from no_line 0 month_count m (λ _. line_of 0 0) l;
+  share = no_share;
+  bend = refl;
+}
 
 answered : (F : List ℕ) → LedgerAnswered F
 unfolding year_of ledger_number ledger_table rising

@@ -13,7 +13,8 @@ use Rattle.contents.specs.Contents.{body_start, body_size, body_of, follows_ok, 
 use Rattle.kind.specs.Kinds.{family_of}
 use Rattle.kind.specs.Masks.{is_within, meets}
 use Rattle.kind.specs.Devices.{device_of}
-use Rattle.project.specs.Project.{row_of, device, group_count, run_linked, input_count, block_count, parameters_in, link_in}
+use Rattle.project.specs.Project.{row_of, device, group_count, run_linked, input_count, block_count, parameters_in}
+use Rattle.project.specs.Project.{link_in}
 use Rattle.project.specs.Project.{output_count, record_size}
 use Rattle.casefile.specs.Bodies.{body_in, project_of, record_of}
 use Rattle.casefile.specs.declared.Verdict.TheVariants.{Accepted}
@@ -29,7 +30,8 @@ use Rattle.block.specs.Finding.{finding_bytes, said_of, finding_of}
 use Rattle.evaluator.specs.declared.Answer.TheVariants.{Findings}
 use Rattle.evaluator.specs.Net.{after}
 use Rattle.evaluator.specs.State.{cell, state_length, outputs_length, findings_length, cell_formed, state_formed}
-use Rattle.evaluator.specs.Groups.{input_word, erred_in, has_error, group_next, phase_from, group_from, phase_of, new_group}
+use Rattle.evaluator.specs.Groups.{input_word, erred_in, has_error, group_next, phase_from, group_from, phase_of}
+use Rattle.evaluator.specs.Groups.{new_group}
 use Rattle.evaluator.specs.Groups.{phase}
 use Rattle.wire.specs.Packed.{entries, hits, packed}
 use Rattle.evaluator.specs.Cycle.{wires, turned_from, net, ran, new_block, words_read, new_head, new_state, output_word}
@@ -76,11 +78,11 @@ after_p1 =
 fit : (first (call_rows (project_of listing) (record_of listing 0) at_first) ≡ 0)
     × (first (call_rows (project_of listing) (record_of listing 1) after_first.lent) ≡ 0)
     × (first (call_rows (project_of subtraction) subtraction_record before_p1) ≡ 0)
-unfolding listing subtraction first project_of record_of body_start body_size body_of follows_ok contents_ok body_in row_of
-    sizes_ok state_length outputs_length findings_length state_formed cell_formed well_formed formed arithmetic_ok record_ok
-    control_ok input_fits word_ok input_word cell fresh_for fresh_bytes encode decode type_of value inside family_of device_of
-    is_within device group_count run_linked input_count block_count parameters_in output_count record_size slot gather first_bad
-    all
+unfolding listing subtraction first project_of record_of body_start body_size body_of follows_ok contents_ok body_in
+    row_of sizes_ok state_length outputs_length findings_length state_formed cell_formed well_formed formed
+    arithmetic_ok record_ok control_ok input_fits word_ok input_word cell fresh_for fresh_bytes encode decode type_of
+    value inside family_of device_of is_within device group_count run_linked input_count block_count parameters_in
+    output_count record_size slot gather first_bad all
 fit = (refl, refl, refl)
 
 -- so the call answers and leaves what the cycle does
@@ -95,12 +97,13 @@ computed : (leaves 0 (project_of listing) (record_of listing 0) at_first ≡ aft
     × (leaves 0 (project_of listing) (record_of listing 1) after_first.lent ≡ after_second)
     × (leaves 0 (project_of subtraction) subtraction_record before_p1 ≡ after_p1)
 unfolding listing subtraction project_of record_of body_start body_size body_of follows_ok contents_ok body_in row_of
-    finding_count new_state new_head new_outputs new_findings output_word new_group group_from new_block ran words_read enters
-    enters_from finding finding_for finding_of said_of finding_bytes text_of hits packed entries after net wires turned_from
-    block_step phase phase_of phase_from group_next has_error erred_in input_word cell fresh_for fresh_bytes encode decode
-    shows shows_of first_read first_read_of second_read second_read_of step_of read_of arithmetic_step result_of op_of outcome
-    settled exact type_of value family_of device_of meets device group_count run_linked input_count block_count parameters_in
-    link_in output_count record_size slot gather first_bad all
+    finding_count new_state new_head new_outputs new_findings output_word new_group group_from new_block ran
+    words_read enters enters_from finding finding_for finding_of said_of finding_bytes text_of hits packed entries
+    after net wires turned_from block_step phase phase_of phase_from group_next has_error erred_in input_word cell
+    fresh_for fresh_bytes encode decode shows shows_of first_read first_read_of second_read second_read_of step_of
+    read_of arithmetic_step result_of op_of outcome settled exact type_of value family_of device_of meets device
+    group_count run_linked input_count block_count parameters_in link_in output_count record_size slot gather
+    first_bad all
 computed = (refl, refl, refl)
 
 -- 01, "The trace program": the first cycle, from the fresh state

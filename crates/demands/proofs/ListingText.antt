@@ -5,7 +5,8 @@ use Rattle.wire.specs.Places.{first_bad, all}
 use Rattle.numbers.specs.Types.{type_of, value}
 use Rattle.contents.specs.Contents.{body_start, body_size, body_of, follows_ok, contents_ok}
 use Rattle.kind.specs.Kinds.{family_of}
-use Rattle.project.specs.Project.{row_of, group_count, input_count, block_count, parameters_in, output_count, record_size}
+use Rattle.project.specs.Project.{row_of, group_count, input_count, block_count, parameters_in, output_count}
+use Rattle.project.specs.Project.{record_size}
 use Rattle.casefile.specs.Bodies.{body_in, project_of, record_count, record_of}
 use Rattle.casefile.proofs.Refusals.{accepted_zero}
 use Rattle.block.specs.Finding.{finding_in}
@@ -26,8 +27,8 @@ use Rattle.demands.proofs.Listing.{at_first, after_first, after_second, listing-
 -- the two records and the fresh state
 given : (records_from listing 0 (record_count listing) ≡ record_of listing 0 ∷ record_of listing 1 ∷ [])
     × (fresh_lent listing ≡ at_first)
-unfolding listing records_from record_count fresh_lent outputs_length findings_length project_of body_start body_size body_of
-    follows_ok contents_ok body_in group_count input_count block_count output_count record_size first_bad all
+unfolding listing records_from record_count fresh_lent outputs_length findings_length project_of body_start body_size
+    body_of follows_ok contents_ok body_in group_count input_count block_count output_count record_size first_bad all
 given = (refl, refl)
 
 called : calls listing ≡ after_first ∷ after_second ∷ []
@@ -45,9 +46,9 @@ listing_end =
 
 computed : joined (texts_from (project_of listing).blocks 0 (after_first ∷ after_second ∷ [])) ++ last_line (Ran 2 1)
     ≡ listing_prints
-unfolding listing project_of body_start body_size body_of follows_ok contents_ok body_in row_of parameters_in family_of type_of
-    value finding_in joined texts_from lines_of line_of finding_line end_line digits_within decimal signed_decimal codes
-    first_bad all
+unfolding listing project_of body_start body_size body_of follows_ok contents_ok body_in row_of parameters_in
+    family_of type_of value finding_in joined texts_from lines_of line_of finding_line end_line digits_within decimal
+    signed_decimal codes first_bad all
 computed = refl
 
 -- 01, "The trace program": the two lines that it prints

@@ -60,8 +60,8 @@ record Computed : Type 0 where
   pub differ : (order_of P.blocks 0 ≡ 0) × (order_of P'.blocks 0 ≡ 1)
 
 computed : Computed
-unfolding as_numbered otherwise project_of body_in contents_ok follows_ok body_start body_size body_of row_of block_count link_in
-    byte_same before before_all all first_bad
+unfolding as_numbered otherwise project_of body_in contents_ok follows_ok body_start body_size body_of row_of
+    block_count link_in byte_same before before_all all first_bad
 computed = record {
   groups = refl;
   inputs = refl;

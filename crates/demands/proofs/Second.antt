@@ -11,7 +11,8 @@ use Rattle.numbers.specs.declared.Op.TheVariants.{Add, Sub, Mul, Div}
 use Rattle.kind.specs.Kinds.{family_of}
 use Rattle.kind.specs.Devices.{device_of}
 use Rattle.kind.specs.Parameters.{limits_of}
-use Rattle.project.specs.Project.{link_in, counts_of, counts_in, row_of, input_size, block_size, output_size, parameters_in}
+use Rattle.project.specs.Project.{link_in, counts_of, counts_in, row_of, input_size, block_size, output_size}
+use Rattle.project.specs.Project.{parameters_in}
 use Rattle.casefile.specs.Bodies.{project_of, starts_of, stretch_of}
 use Rattle.casefile.specs.Refusal.{verdict}
 use Rattle.block.specs.State.{fresh_bytes}

@@ -27,7 +27,8 @@ use Rattle.evaluator.proofs.Calls.{refused_file, call_refused}
 use Rattle.report.specs.Lines.{finding_line, refused_line}
 use Rattle.tracer.specs.declared.End.{End}
 use Rattle.tracer.specs.declared.End.TheVariants.{Refused as Halted}
-use Rattle.tracer.specs.Traced.{records_from, fresh_lent, calls, goes_on, ended, run_end, unless_refused, end_number, end_of}
+use Rattle.tracer.specs.Traced.{records_from, fresh_lent, calls, goes_on, ended, run_end, unless_refused, end_number}
+use Rattle.tracer.specs.Traced.{end_of}
 use Rattle.tracer.specs.Text.{shown_as, line_of, lines_of, last_line, texts_from, texts, joined, trace_text}
 use Rattle.demands.specs.Demands.{Demand3, Printout, trace_over, first_number, numbers_of, Traces}
 use Rattle.demands.proofs.Demand1.{told_number_is}

@@ -1,16 +1,17 @@
 -- The three demands on the product, over bytes (01, "What the reviewer must be able to rely on" and "Turned down:
--- numbers and order"). F is a file, R a cycle's record, L the three lent buffers, `cycle_of F R L` what the call answers
--- and leaves. The contract of `evaluator::cycle` is an equation with `cycle_of` for the answer and for each buffer, so
--- what is proved of `cycle_of` holds of the code; so do those of `casefile::check`, `evaluator::sizes_of`, `fresh` and
--- `tracer::trace` with the definitions named here. The proofs are `demand1`, `demand2`, `demand3` and `traces` of
--- proofs/Demand1.antt to Demand3.antt and Traces.antt.
+-- numbers and order"). F is a file, R a cycle's record, L the three lent buffers, `cycle_of F R L` what the call
+-- answers and leaves. The contract of `evaluator::cycle` is an equation with `cycle_of` for the answer and for each
+-- buffer, so what is proved of `cycle_of` holds of the code; so do those of `casefile::check`, `evaluator::sizes_of`,
+-- `fresh` and `tracer::trace` with the definitions named here. The proofs are `demand1`, `demand2`, `demand3` and
+-- `traces` of proofs/Demand1.antt to Demand3.antt and Traces.antt.
 --
 -- That the demands speak of something is computed in proofs/Accepted.antt, Listing.antt, ListingText.antt and
 -- Pair.antt. `accepted_all`: four files are accepted. `listing-first` and `listing_second` are the two cycles of 01's
 -- listing as cycle calls, `listing_end` and `listing_text` how its trace ends and the two lines that it prints.
 -- `p1_call` and `p2_call` are P1 and P2 as cycle calls. Two of the four files differ in their execution numbers
 -- (`pair_differs`), are alike for demand 3 (`pair_alike`), and so have the same runs (`pair_runs`).
-use Rattle.std.specs.Prelude.{ℕ, zero, suc, ◌+◌, ◌*◌, ◌≤◌, ◌<◌, ◌≡◌, ◌↔◌, ◌≢◌, Bool, true, ◌&&◌, List, [], ◌∷◌, ◌++◌, map, leb}
+use Rattle.std.specs.Prelude.{ℕ, zero, suc, ◌+◌, ◌*◌, ◌≤◌, ◌<◌, ◌≡◌, ◌↔◌, ◌≢◌, Bool, true, ◌&&◌, List, [], ◌∷◌, ◌++◌}
+use Rattle.std.specs.Prelude.{map, leb}
 use Rattle.wire.specs.Words.{byte_at}
 use Rattle.wire.specs.Records.{slot}
 use Rattle.wire.specs.Tables.{Row, FirstIn, AllKept}
@@ -26,7 +27,8 @@ use Rattle.evaluator.specs.Net.{words, seen}
 use Rattle.evaluator.specs.State.{cell, state_length, outputs_length, findings_length, state_formed}
 use Rattle.evaluator.specs.Groups.{phase}
 use Rattle.wire.specs.Packed.{hits}
-use Rattle.evaluator.specs.Cycle.{wires, first_of, second_of, turned_from, new_block, words_read, new_state, new_outputs}
+use Rattle.evaluator.specs.Cycle.{wires, first_of, second_of, turned_from, new_block, words_read, new_state}
+use Rattle.evaluator.specs.Cycle.{new_outputs}
 use Rattle.evaluator.specs.Cycle.{new_findings, enters, finding_count}
 use Rattle.evaluator.specs.Answer.{Lent, Left, call_table, cycle_of, number_in}
 use Rattle.evaluator.specs.Runs.{run}
@@ -180,10 +182,10 @@ abbrev pub numbers_of : List Left → List ℕ
 numbers_of ls = map (λ (l : Left). number_in l.answer) ls
 
 -- 01, "The trace program": `tracer::trace` answers `end_of F`. Each text that is handed to its writing functions is a
--- piece of `trace_text F` (`tracer`, Text `Told` and `last_line`); that each piece is written, once and in order, is read
--- off its few lines and tested. End and text are, of a file that is turned down, its number, and of an accepted one the
--- fold of the cycle call over the records of T from the fresh state. The end's number is the first that is not 0 of the
--- file's and the calls'. Renumbering changes neither end nor text, where T is the same
+-- piece of `trace_text F` (`tracer`, Text `Told` and `last_line`); that each piece is written, once and in order, is
+-- read off its few lines and tested. End and text are, of a file that is turned down, its number, and of an accepted
+-- one the fold of the cycle call over the records of T from the fresh state. The end's number is the first that is not
+-- 0 of the file's and the calls'. Renumbering changes neither end nor text, where T is the same
 pub record Traces : Type 0 where
   pub refused :
       (F : List ℕ) (n : ℕ) → number_of (verdict F) ≡ suc n →

@@ -97,7 +97,8 @@ module _ (F R : List ℕ) (L : Lent) where
   unfolding refusal call_table
   refused_rows z P e =
       ap (λ (p : Project). first (call_rows p R L)) e
-      ∙ sym (first-kept (file_table F) (call_rows (project_of F) R L) ((first_zero (file_table F) (file_numbered F)).0 z))
+      ∙ sym
+      (first-kept (file_table F) (call_rows (project_of F) R L) ((first_zero (file_table F) (file_numbered F)).0 z))
 
   -- a call that is turned down with the number n
   pub call_refused : (n : ℕ) → refusal F R L ≡ n → n ≢ 0 →

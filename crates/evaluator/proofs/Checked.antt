@@ -13,7 +13,8 @@ use Rattle.wire.proofs.Records.{lt_or_gt, slot-gather, gather_same, length-gathe
 use Rattle.kind.specs.Devices.{is_err_ack}
 use Rattle.project.specs.declared.Counts.{Counts}
 use Rattle.casefile.specs.Sound.{Sound}
-use Rattle.project.specs.Project.{block_count, block_size, device, group_count, head_size, kind_of, order_of, output_block}
+use Rattle.project.specs.Project.{block_count, block_size, device, group_count, head_size, kind_of, order_of}
+use Rattle.project.specs.Project.{output_block}
 use Rattle.project.specs.Project.{output_count, output_port, parameters_of, word_size}
 use Rattle.casefile.proofs.Execution.{block_at-is, block_at_lt}
 use Rattle.block.specs.Finding.{finding_size}

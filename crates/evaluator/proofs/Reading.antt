@@ -4,7 +4,8 @@ use Rattle.wire.specs.Words.{le32}
 use Rattle.wire.specs.Records.{slot}
 use Rattle.wire.proofs.Records.{word_within}
 use Rattle.project.specs.declared.Source.TheVariants.{External, Output}
-use Rattle.project.specs.Project.{kind_in, row_of, block_count, block_record, block_size, word_size, head_size, parameters_in}
+use Rattle.project.specs.Project.{kind_in, row_of, block_count, block_record, block_size, word_size, head_size}
+use Rattle.project.specs.Project.{parameters_in}
 use Rattle.block.specs.State.{state_size}
 use Rattle.block.specs.Shows.{shows}
 use Rattle.evaluator.specs.Net.{reads}

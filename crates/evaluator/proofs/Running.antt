@@ -132,20 +132,20 @@ module _ (h : ℕ) (B R H K S₀ D₀ : List ℕ) (n : ℕ) (r : Running h B R H
 
     same_cell : cell h S b ≡ cell h S₀ b
     same_cell =
-        stage_old (net h B R (byte_at H)) (order_of B) (cell h S₀) (block_count B) e b (cell h S) here linked inside at
-        early
+        stage_old (net h B R (byte_at H)) (order_of B) (cell h S₀) (block_count B) e b (cell h S) here linked inside
+        at early
 
     same_words : words_at h B R S b ≡ words (wires h B R) (seen (order_of B) (cell h S₀) (ran_with h B R H S₀) b) b
     unfolding ran_with ran net
     same_words =
-        stage_words (net h B R (byte_at H)) (order_of B) (cell h S₀) (block_count B) e b (cell h S) here linked inside at
-        early
+        stage_words (net h B R (byte_at H)) (order_of B) (cell h S₀) (block_count B) e b (cell h S) here linked inside
+        at early
 
     pub turned-ran : turned h B R (phase_at B H b) S b ≡ ran_with h B R H S₀ b
     unfolding turned turned_from ran_with ran net
     turned-ran =
-        stage_turn (net h B R (byte_at H)) (order_of B) (cell h S₀) (block_count B) e b (cell h S) here linked inside at
-        early
+        stage_turn (net h B R (byte_at H)) (order_of B) (cell h S₀) (block_count B) e b (cell h S) here linked inside
+        at early
 
     pub entering-ran : entering h B R (phase_at B H b) S b ≡ enters_with h B R H S₀ b
     unfolding entering enters_with

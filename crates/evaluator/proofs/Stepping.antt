@@ -39,7 +39,8 @@ module _ (w : ℕ) (hit : ℕ → Bool) (f : ℕ → List ℕ) (long : (b : ℕ)
 module _ (G B R S : List ℕ) where
   pub findings_long : length (new_findings G B R S) ≡ findings_length B
   unfolding new_findings findings_length finding
-  findings_long = packed_long finding_size (enters G B R S) (finding G B R S) (λ b. found-length B b _ _) (block_count B)
+  findings_long =
+      packed_long finding_size (enters G B R S) (finding G B R S) (λ b. found-length B b _ _) (block_count B)
 
   pub outputs_long : (O : List ℕ) → length (new_outputs G B O R S) ≡ outputs_length O
   unfolding new_outputs outputs_length

@@ -1,7 +1,8 @@
 -- What functions inside a cycle ask of each other, and what the three functions for a trace require and give
 -- (DECISIONS 29). Whoever calls `cycle` need not believe it: a call has checked all of it before it runs a cycle (01,
 -- "Turned down"). G, B and O are bodies of a project, h is how many groups it has, R a record, S a state.
-use Rattle.std.specs.Prelude.{ℕ, ◌+◌, ◌*◌, ◌<◌, ◌≤◌, ◌≡◌, List, [], ◌∷◌, ◌≢◌, length, replicate, eqb, ltb, Bool, true, false, cond}
+use Rattle.std.specs.Prelude.{ℕ, ◌+◌, ◌*◌, ◌<◌, ◌≤◌, ◌≡◌, List, [], ◌∷◌, ◌≢◌, length, replicate, eqb, ltb, Bool, true}
+use Rattle.std.specs.Prelude.{false, cond}
 use Rattle.std.proofs.lemmas.List.Edits.{sets}
 use Rattle.wire.specs.Words.{byte_at}
 use Rattle.wire.specs.Records.{gather}
@@ -9,8 +10,10 @@ use Rattle.kind.specs.Devices.{is_err_ack}
 use Rattle.project.specs.declared.Source.{Source}
 use Rattle.project.specs.declared.Source.TheVariants.{External, Output}
 use Rattle.project.specs.declared.Counts.{Counts}
-use Rattle.project.specs.Project.{row_of, device, group_count, input_size, input_count, block_size, block_count, block_record}
-use Rattle.project.specs.Project.{group_of, order_of, link_in, block_at, output_count, output_block, output_port, head_size}
+use Rattle.project.specs.Project.{row_of, device, group_count, input_size, input_count, block_size, block_count}
+use Rattle.project.specs.Project.{block_record}
+use Rattle.project.specs.Project.{group_of, order_of, link_in, block_at, output_count, output_block, output_port}
+use Rattle.project.specs.Project.{head_size}
 use Rattle.project.specs.Project.{word_size, record_size}
 use Rattle.casefile.specs.Sound.{Sound, Shown}
 use Rattle.block.specs.State.{only_if, state_size, enters_from}

@@ -32,7 +32,8 @@ fresh_for P = replicate (state_head (group_count P.groups)) 0 ++ gather (block_c
 
 -- 01, "Turned down": the file's rules, and then 10, the buffer is of the exact size
 unfoldable pub fresh_table : List ℕ → List ℕ → List Row
-fresh_table F S = file_table F ++ row 10 (eqb (length S) (state_length (project_of F).groups (project_of F).blocks)) ∷ []
+fresh_table F S =
+    file_table F ++ row 10 (eqb (length S) (state_length (project_of F).groups (project_of F).blocks)) ∷ []
 
 unfoldable pub fresh_number : List ℕ → List ℕ → ℕ
 fresh_number F S = first (fresh_table F S)

@@ -2,7 +2,8 @@
 // the buffers' sizes, the state, the record. `c` has the counts of the project.
 ghost use Rattle.std.specs.Prelude.{◌≡◌, ◌&&◌, ◌+◌, ◌*◌, ◌<◌, ◌≤◌, eqb, length};
 ghost use Rattle.wire.specs.Places.{first_bad};
-ghost use Rattle.project.specs.Project.{device, group_count, input_size, input_count, block_count, head_size, word_size};
+ghost use Rattle.project.specs.Project.{device, group_count, input_size, input_count, block_count, head_size};
+ghost use Rattle.project.specs.Project.{word_size};
 ghost use Rattle.block.specs.State.{state_size};
 ghost use Rattle.block.specs.Finding.{finding_size};
 ghost use Rattle.block.specs.Shows.{word_ok};

@@ -1,4 +1,4 @@
--- Bytes as sets of bits (general). `bit_and` and `bit_or` are the library's, bit by bit (`lib.Bits`).
+-- Bytes as sets of bits (general). `bit_and` and `bit_or` are the library's, bit by bit (`Int.Bits`).
 use Rattle.std.specs.Prelude.{ℕ, Bool, not, eqb}
 use Rattle.std.specs.Int.Bits.{bit_and, bit_or}
 

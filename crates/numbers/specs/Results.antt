@@ -1,8 +1,9 @@
--- What ADD, SUB, MUL and DIV give: the exact result of the two inputs in ℤ, then whether the output type holds it,
--- and the numbers that a finding shows of it. Sum, difference and product are the library's (`lib.IntN`), `lt_z` its
--- order (`lib.Signed`); of naturals, `/` and `%` cut, and `-` stops at 0, which the divisor less its remainder does not
--- reach. 001, 4.16 to 4.19, and where it is silent 01, "Arithmetic.". Assumes nothing.
-use Rattle.std.specs.Prelude.{ℕ, ◌+◌, ◌-◌, ◌/◌, ◌%◌, Bool, true, false, cond, not, ◌&&◌, ltb, leb, eqb, ℤ, pos, nat_abs, ◌+ℤ◌, ◌-ℤ◌, ◌*ℤ◌}
+-- What ADD, SUB, MUL and DIV give: the exact result of the two inputs in ℤ, then whether the output type holds it, and
+-- the numbers that a finding shows of it. Sum, difference and product are the library's, `lt_z` its order; of naturals,
+-- `/` and `%` cut, and `-` stops at 0, which the divisor less its remainder does not reach. 001, 4.16 to 4.19, and
+-- where it is silent 01, "Arithmetic.". Assumes nothing.
+use Rattle.std.specs.Prelude.{ℕ, ◌+◌, ◌-◌, ◌/◌, ◌%◌, Bool, true, false, cond, not, ◌&&◌, ltb, leb, eqb, ℤ, pos}
+use Rattle.std.specs.Prelude.{nat_abs, ◌+ℤ◌, ◌-ℤ◌, ◌*ℤ◌}
 use Rattle.std.specs.Int.Signed.{lt_z}
 use Rattle.numbers.specs.Types.{lo, hi, value, word_of, sgn, is_neg}
 use Rattle.numbers.specs.declared.NumType.{NumType}

@@ -1,7 +1,6 @@
--- The four number types, their ranges, and the word of 32 bits that stores a number. ℤ is the library's (`lib.IntN`:
--- `pos n` is n, `negsuc n` is -(n + 1), `nat_abs` the magnitude, `sub_ℕ m n` is m - n), `le_z` its order (`lib.Signed`),
--- `cond` is if-then-else. The types are those that 001, 4.16.1 to 4.19.1, allow: INT16, UINT16, INT32, UINT32. Assumes
--- nothing.
+-- The four number types, their ranges, and the word of 32 bits that stores a number. ℤ is the library's: `pos n` is n,
+-- `negsuc n` is -(n + 1), `nat_abs` the magnitude, `sub_ℕ m n` is m - n, `le_z` its order; `cond` is if-then-else. The
+-- types are those that 001, 4.16.1 to 4.19.1, allow: INT16, UINT16, INT32, UINT32. Assumes nothing.
 use Rattle.std.specs.Prelude.{ℕ, suc, ◌-◌, ◌^◌, Bool, true, false, cond, ◌&&◌, leb, eqb, ℤ, pos, negsuc, neg_ℤ, nat_abs}
 use Rattle.std.proofs.Math.IntN.{sub_ℕ}
 use Rattle.std.specs.Int.Signed.{le_z}

@@ -1,6 +1,7 @@
 -- A project is its four bodies (01, "The case file"): G, I, B and O, each a list of bytes. A definition reads the
 -- bodies that it names and no others, and is total, since a byte past the end reads as 0.
-use Rattle.std.specs.Prelude.{ℕ, ◌+◌, ◌-◌, ◌*◌, ◌/◌, Bool, true, false, cond, not, ◌&&◌, List, eqb, leb, length, take, drop}
+use Rattle.std.specs.Prelude.{ℕ, ◌+◌, ◌-◌, ◌*◌, ◌/◌, Bool, true, false, cond, not, ◌&&◌, List, eqb, leb, length, take}
+use Rattle.std.specs.Prelude.{drop}
 use Rattle.wire.specs.Words.{byte_at}
 use Rattle.wire.specs.Places.{first_bad}
 use Rattle.project.specs.declared.Source.{Source}

@@ -1,9 +1,10 @@
 -- Numbers as text, in ASCII: `0` is 48, `9` is 57, `-` is 45. 01, "The trace program", prints a text ID "in decimal"
 -- and inputs "signed by type". `decimal` says how a number is spelled; `value_of` reads a spelling back, and `Numeral`
 -- says which spellings are decimal notation, so that proofs/Decimal can prove that `decimal` is that notation and no
--- other. `/` and `%` cut, `cond` is if-then-else, ℤ is `lib.IntN`'s: `pos n` is n, `negsuc n` is -(n + 1).
+-- other. `/` and `%` cut, `cond` is if-then-else, ℤ is the library's: `pos n` is n, `negsuc n` is -(n + 1).
 -- Assumes nothing.
-use Rattle.std.specs.Prelude.{ℕ, zero, suc, ◌+◌, ◌-◌, ◌*◌, ◌/◌, ◌%◌, ◌≤◌, cond, List, [], ◌∷◌, ◌++◌, ltb, ℤ, pos, negsuc}
+use Rattle.std.specs.Prelude.{ℕ, zero, suc, ◌+◌, ◌-◌, ◌*◌, ◌/◌, ◌%◌, ◌≤◌, cond, List, [], ◌∷◌, ◌++◌, ltb, ℤ, pos}
+use Rattle.std.specs.Prelude.{negsuc}
 
 -- general: the character of a digit
 abbrev pub digit : ℕ → ℕ

@@ -1,8 +1,9 @@
 -- The lines that the ledger program prints for a month and for a bend. 02, W4: "the program prints counts in decimal,
 -- the rate's 64 bits in hexadecimal". DECISIONS 54: the words of the lines, and 16 digits in lower case, the highest
 -- first. Characters are in ASCII: `0` is 48, `9` is 57, `a` is 97, `f` is 102. `hexadecimal` says how a number is
--- spelled; `hex_value` reads a spelling back, and `HexDigits` says which spellings there are, so that proofs/Hexadecimal
--- can prove that `hexadecimal` is that notation and no other. `/` and `%` cut, `cond` is if-then-else.
+-- spelled; `hex_value` reads a spelling back, and `HexDigits` says which spellings there are, so that
+-- proofs/Hexadecimal can prove that `hexadecimal` is that notation and no other. `/` and `%` cut, `cond` is
+-- if-then-else.
 -- Assumes nothing.
 use Rattle.std.specs.Prelude.{ℕ, zero, suc, ◌+◌, ◌-◌, ◌*◌, ◌/◌, ◌%◌, ◌≤◌, cond, List, [], ◌∷◌, ◌++◌, ltb}
 use Rattle.report.specs.Decimal.{decimal}

@@ -1,6 +1,6 @@
 -- The lines that the trace program prints. 01, "The trace program", has their words and numbers; DECISIONS 24: single
 -- spaces, a line feed after every line, nothing else. Characters are in ASCII. A store of a run of bytes is the
--- library's `sets` (`lib.Seq`): what lies past the end is not written.
+-- library's `sets` (`List.Edits`): what lies past the end is not written.
 -- Assumes nothing.
 use Rattle.std.specs.Prelude.{◌≡◌, ℕ, ◌+◌, ◌≤◌, List, [], ◌∷◌, ◌++◌, length}
 use Rattle.std.proofs.lemmas.List.Edits.{sets}

@@ -40,7 +40,8 @@ module _ (F : List ℕ) (z : ledger_number F ≡ 0) where
   pub taken_small : Small F
   unfolding months_ok kept_in
   taken_small = record {
-    month = λ m l. leb-true (finding_count (body_of F m)) month_most (all_each (kept_in Few F) month_count taken_few m l);
+    month = λ m l.
+        leb-true (finding_count (body_of F m)) month_most (all_each (kept_in Few F) month_count taken_few m l);
   }
 
 -- and what has all of it is accepted

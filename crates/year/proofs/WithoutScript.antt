@@ -122,6 +122,7 @@ module _ (F : List ℕ) (z : ledger_number F ≡ 0) where
       (λ m l. ap₂ line_of (ap (found Every) (body_without m l) ∙ only_found (body_of F m))
       (ap (dismissed Every) (body_without m l) ∙ only_dismissed (body_of F m)))
 
-  pub without_script_is : (ledger_number (without_script F) ≡ 0) × (table_of Every (without_script F) ≡ table_of Person F)
+  pub without_script_is :
+      (ledger_number (without_script F) ≡ 0) × (table_of Every (without_script F) ≡ table_of Person F)
   unfolding table_of
   without_script_is = (number, λ i. record { lines = lines i; bend = bend_of (lines i) })

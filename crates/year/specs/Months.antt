@@ -1,6 +1,6 @@
 -- A month's line: its findings, the dismissed ones and the rate (02, W4). M is a month's body, f a finding's bytes.
--- Floats are `lib.Ieee`'s: `of_int binary64` is the 64-bit float nearest to a whole number, `div` the one nearest to the
--- quotient.
+-- Floats are `Float.Ieee`'s: `of_int binary64` is the 64-bit float nearest to a whole number, `div` the one nearest to
+-- the quotient.
 use Rattle.std.specs.Prelude.{ℕ, Bool, true, ◌&&◌, cond, List, eqb, pos, Float}
 use Rattle.std.specs.Float.{binary64}
 use Rattle.std.specs.Float.Ieee.{div, of_int, of_bits, to_bits, eq}

@@ -8,7 +8,8 @@ use Rattle.casefile.proofs.Marking.{marking_begin, marking_more}
 use Rattle.casefile.proofs.channels.mark_blocks.Goals as goal
 
 pub loop-a-init : goal.loop-a-init
-loop-a-init c = marking_begin (block_passes c.args.blocks.now) (block_count c.args.blocks.now) c.args.marks.now c.requires
+loop-a-init c =
+    marking_begin (block_passes c.args.blocks.now) (block_count c.args.blocks.now) c.args.marks.now c.requires
 
 pub loop-a-preserved : goal.loop-a-preserved
 unfolding block_passes block_count

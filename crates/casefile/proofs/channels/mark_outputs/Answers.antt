@@ -9,7 +9,8 @@ use Rattle.casefile.proofs.Marking.{marking_begin, marking_more}
 use Rattle.casefile.proofs.channels.mark_outputs.Goals as goal
 
 pub loop-o-init : goal.loop-o-init
-loop-o-init c = marking_begin (output_passes c.args.outputs.now) (output_count c.args.outputs.now) c.args.marks.now c.requires
+loop-o-init c =
+    marking_begin (output_passes c.args.outputs.now) (output_count c.args.outputs.now) c.args.marks.now c.requires
 
 pub loop-o-preserved : goal.loop-o-preserved
 unfolding passes output_passes output_count

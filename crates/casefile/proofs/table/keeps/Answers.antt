@@ -14,10 +14,12 @@ pub first_unread-requires : goal.first_unread-requires
 first_unread-requires c = (blocks_whole c.args.b.now (c.requires.blocks (rw c.in-Channels.is (omega arith)))).few
 
 pub trace_ok-requires-clause-groups_bound : goal.trace_ok-requires-clause-groups_bound
-trace_ok-requires-clause-groups_bound c = groups_are_few c.args.g.now (c.requires.groups (rw c.in-Trace.is (omega arith)))
+trace_ok-requires-clause-groups_bound c =
+    groups_are_few c.args.g.now (c.requires.groups (rw c.in-Trace.is (omega arith)))
 
 pub trace_ok-requires-clause-inputs_bound : goal.trace_ok-requires-clause-inputs_bound
-trace_ok-requires-clause-inputs_bound c = (inputs_whole c.args.i.now (c.requires.inputs (rw c.in-Trace.is (omega arith)))).few
+trace_ok-requires-clause-inputs_bound c =
+    (inputs_whole c.args.i.now (c.requires.inputs (rw c.in-Trace.is (omega arith)))).few
 
 -- where the test is a search, it found no place
 pub returns-in-Groups : goal.returns-in-Groups

@@ -8,7 +8,8 @@ use Rattle.evaluator.proofs.findings.pack.Given as goal
 
 abbrev pub invariant-loop-b : goal.invariant-loop-b
 invariant-loop-b l =
-    (l.b ≤ l.n) × Kept finding_size (is_noted l.initial.findings) (note_in l.initial.findings) l.initial.findings l.findings l.k l.b
+    (l.b ≤ l.n)
+    × Kept finding_size (is_noted l.initial.findings) (note_in l.initial.findings) l.initial.findings l.findings l.k l.b
 
 abbrev pub decreases-loop-b : goal.decreases-loop-b
 decreases-loop-b l = l.n - l.b

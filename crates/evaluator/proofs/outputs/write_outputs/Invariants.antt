@@ -8,7 +8,9 @@ use Rattle.evaluator.proofs.outputs.write_outputs.Given as goal
 
 abbrev pub invariant-loop-o : goal.invariant-loop-o
 invariant-loop-o l =
-    (l.o ≤ l.m) × (l.outputs ≡ gathered word_size (λ (o : ℕ). bytes4 (output_shown l.h l.blocks l.rows l.state o)) l.initial.outputs l.o)
+    (l.o ≤ l.m)
+    × (l.outputs
+    ≡ gathered word_size (λ (o : ℕ). bytes4 (output_shown l.h l.blocks l.rows l.state o)) l.initial.outputs l.o)
 
 abbrev pub decreases-loop-o : goal.decreases-loop-o
 decreases-loop-o l = l.m - l.o
