@@ -25,6 +25,8 @@ LOCAL = {
 }
 # names that std has too, and imports of them stand beside ours
 SHARED = {"and-true"}
+# definitions whose names are plain words where a lemma's name has them
+PLAIN = {"is", "first", "left", "plain", "found", "kept", "told", "ran", "inside", "over", "from"}
 # where the plain rule would let two names fall together, or a word would hide another
 OWN = {
     "contents-ok": "contents_is_ok",
@@ -32,7 +34,9 @@ OWN = {
     "few-groups": "groups_are_few",
     "group-formed": "group_is_formed",
     "hex-value": "hex_value_is",
+    "is-device": "device_is",
     "is-error": "error_is",
+    "is-run": "run_is",
     "new-group": "new_group_is",
     "output-block": "output_block_is",
     "output-word": "output_word_is",
@@ -95,7 +99,7 @@ def small(name):
 
 def table(found):
     words = {n for n, at in found.items() if any("/specs/" in p for p in at)} | STD
-    words |= {snake(w) for w in words if small(w)}
+    words = {snake(w) for w in words if small(w)} - PLAIN
     turned = {}
     for name in found:
         if not small(name) or MADE.match(name) or name in SHARED:

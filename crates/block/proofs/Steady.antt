@@ -35,10 +35,10 @@ zero_either : (b : Bool) → only_if b 0 % 65536 ≡ 0
 zero_either true = refl
 zero_either false = refl
 
-judged-plain : (l : Limits) (code : ℕ) (h : Hands) → is_waiting code ≡ false →
+judged_plain : (l : Limits) (code : ℕ) (h : Hands) → is_waiting code ≡ false →
     judged l none code h ≡ plain (next_code code h)
 unfolding judged error_bits moved
-judged-plain l code h w =
+judged_plain l code h w =
     let e = or_false (eqb code 11) (eqb code 12) w in
     rw (
       le-ltb (l.first + 1) 0 (omega arith),
@@ -58,7 +58,7 @@ module _ (P : List ℕ) (ms x : ℕ) (old : BlockState) (w : is_waiting old.code
 
   pub steady : twohand_run P ms x old ≡ plain (next_code old.code (hands_of (active_mask P) x))
   unfolding twohand_run
-  steady = rw times_none (judged-plain (limits_of P) old.code (hands_of (active_mask P) x) w)
+  steady = rw times_none (judged_plain (limits_of P) old.code (hands_of (active_mask P) x) w)
 
 -- it does not enter ERROR
 pub moves_on : (s : List ℕ) (code : ℕ) (h : Hands) → enters_from s (encode (plain (next_code code h))) ≡ false

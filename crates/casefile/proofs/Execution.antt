@@ -14,6 +14,6 @@ module _ {G B : List ℕ} {n : ℕ} (s : Sound G B n) where
     unfolding block_at other_order place_of
     block_at_lt = place_lt orders e l
 
-    pub block_at-is : order_of B (block_at B e) ≡ e
+    pub block_at_is : order_of B (block_at B e) ≡ e
     unfolding block_at other_order place_of
-    block_at-is = place_is orders e l
+    block_at_is = place_is orders e l

@@ -31,7 +31,7 @@ use Rattle.evaluator.proofs.Cycles.{new_stepped}
 use Rattle.evaluator.proofs.Checked.{new_formed}
 use Rattle.evaluator.proofs.Checking.{taken}
 use Rattle.evaluator.proofs.Calls.{call_refused, call_done, call_taken, call_passed}
-use Rattle.evaluator.proofs.Running.{found-length}
+use Rattle.evaluator.proofs.Running.{found_length}
 use Rattle.evaluator.proofs.FreshFormed.{fresh_state_formed}
 use Rattle.demands.specs.Demands.{CycledBy, Demand2}
 
@@ -143,11 +143,11 @@ module _ (F R : List ℕ) (L : Lent) where
     only = new_only G B R S sound;
     found = λ b l h.
         ap (λ (t : Left). slot 0 finding_size (hits b (enters G B R S)) t.lent.findings) done
-        ∙ packed_at finding_size (enters G B R S) (finding G B R S) (λ b. found-length B b _ _)
+        ∙ packed_at finding_size (enters G B R S) (finding G B R S) (λ b. found_length B b _ _)
         (finding_size * block_count B) (block_count B) b l h;
     unused = λ i l.
         ap (λ (t : Left). byte_at t.lent.findings i) done
-        ∙ packed_past finding_size (enters G B R S) (finding G B R S) (λ b. found-length B b _ _)
+        ∙ packed_past finding_size (enters G B R S) (finding G B R S) (λ b. found_length B b _ _)
         (finding_size * block_count B) (block_count B) i (rw counted at l);
     formed =
         ap (λ (l : Left). state_formed G B l.lent.state) done

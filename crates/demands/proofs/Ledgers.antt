@@ -19,7 +19,7 @@ use Rattle.year.specs.Months.{found, dismissed, rate_of, line_of, share_of, bits
 use Rattle.year.specs.Bends.{no_line, sum_of, line_at, pool_of, sides_at, both_sides, largest, bend_of}
 use Rattle.year.specs.Year.{month_line, lines_of, table_of, no_table, year_of}
 use Rattle.year.specs.Asks.{Counted}
-use Rattle.year.proofs.Filling.{get_or-from}
+use Rattle.year.proofs.Filling.{get_or_from}
 use Rattle.year.proofs.Rates.{rate_nearest, rate_none, none_rate, rate_all, all_rate, round_bits}
 use Rattle.year.proofs.Sums.{sides_small, sum_some, some_sum}
 use Rattle.year.proofs.Bending.{Topped, tops, found as top-found, nothing as top-none, larger_literal}
@@ -39,7 +39,7 @@ no_share = refl
 no_table_is : NoTable no_table
 unfolding no_table
 no_table_is = record {
-  line = λ m l. get_or-from no_line 0 month_count m (λ _. line_of 0 0) l;
+  line = λ m l. get_or_from no_line 0 month_count m (λ _. line_of 0 0) l;
   share = no_share;
   bend = refl;
 }

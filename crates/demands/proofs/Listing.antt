@@ -107,14 +107,14 @@ unfolding listing subtraction project_of record_of body_start body_size body_of 
 computed = (refl, refl, refl)
 
 -- 01, "The trace program": the first cycle, from the fresh state
-pub listing-first : cycle_of listing (record_of listing 0) at_first ≡ after_first
-listing-first = done listing accepted_all.0.0 (record_of listing 0) at_first fit.0 ∙ computed.0
+pub listing_first : cycle_of listing (record_of listing 0) at_first ≡ after_first
+listing_first = done listing accepted_all.0.0 (record_of listing 0) at_first fit.0 ∙ computed.0
 
 -- 01, "The trace program": the second cycle, from what the first left
 pub listing_second :
     cycle_of listing (record_of listing 1) (cycle_of listing (record_of listing 0) at_first).lent ≡ after_second
 listing_second =
-    ap (λ (L : Left). cycle_of listing (record_of listing 1) L.lent) listing-first
+    ap (λ (L : Left). cycle_of listing (record_of listing 1) L.lent) listing_first
     ∙ done listing accepted_all.0.0 (record_of listing 1) after_first.lent fit.1
     ∙ computed.1
 
@@ -123,4 +123,4 @@ pub p1_call : cycle_of subtraction subtraction_record before_p1 ≡ after_p1
 p1_call = done subtraction accepted_all.0.1 subtraction_record before_p1 fit.2 ∙ computed.2
 
 pub p2_call : cycle_of listing (record_of listing 0) at_first ≡ after_first
-p2_call = listing-first
+p2_call = listing_first

@@ -22,7 +22,7 @@ use Rattle.tracer.specs.Traced.{records_from, fresh_lent, calls, ended, run_end,
 use Rattle.tracer.specs.Text.{line_of, lines_of, last_line, texts_from, texts, joined, trace_text}
 use Rattle.demands.specs.Listing.{listing, listing_prints}
 use Rattle.demands.proofs.Accepted.{accepted_all}
-use Rattle.demands.proofs.Listing.{at_first, after_first, after_second, listing-first, listing_second}
+use Rattle.demands.proofs.Listing.{at_first, after_first, after_second, listing_first, listing_second}
 
 -- the two records and the fresh state
 given : (records_from listing 0 (record_count listing) ≡ record_of listing 0 ∷ record_of listing 1 ∷ [])
@@ -35,7 +35,7 @@ called : calls listing ≡ after_first ∷ after_second ∷ []
 unfolding calls run
 called =
     ap₂ (λ (Rs : List (List ℕ)) (L : Lent). run listing Rs L) given.0 given.1
-    ∙ ap₂ (λ (a b : Left). a ∷ b ∷ []) listing-first listing_second
+    ∙ ap₂ (λ (a b : Left). a ∷ b ∷ []) listing_first listing_second
 
 -- 01, "The trace program": two cycles, one finding
 pub listing_end : end_of listing ≡ Ran 2 1

@@ -6,7 +6,7 @@
 -- `traces` of proofs/Demand1.antt to Demand3.antt and Traces.antt.
 --
 -- That the demands speak of something is computed in proofs/Accepted.antt, Listing.antt, ListingText.antt and
--- Pair.antt. `accepted_all`: four files are accepted. `listing-first` and `listing_second` are the two cycles of 01's
+-- Pair.antt. `accepted_all`: four files are accepted. `listing_first` and `listing_second` are the two cycles of 01's
 -- listing as cycle calls, `listing_end` and `listing_text` how its trace ends and the two lines that it prints.
 -- `p1_call` and `p2_call` are P1 and P2 as cycle calls. Two of the four files differ in their execution numbers
 -- (`pair_differs`), are alike for demand 3 (`pair_alike`), and so have the same runs (`pair_runs`).

@@ -5,7 +5,7 @@ use lib.Dec.{leb}
 use Rattle.wire.specs.Places.{all}
 use Rattle.wire.specs.Tables.{first, AllKept}
 use Rattle.wire.proofs.Places.{both_left, both_right}
-use Rattle.wire.proofs.Tables.{numbered, first_zero, first-kept, first_broken}
+use Rattle.wire.proofs.Tables.{numbered, first_zero, first_kept, first_broken}
 use Rattle.project.specs.declared.Counts.{Counts}
 use Rattle.project.specs.Project.{Project, group_count, input_count, record_size, counts_in}
 use Rattle.casefile.specs.Bodies.{project_of}
@@ -98,7 +98,7 @@ module _ (F R : List ℕ) (L : Lent) where
   refused_rows z P e =
       ap (λ (p : Project). first (call_rows p R L)) e
       ∙ sym
-      (first-kept (file_table F) (call_rows (project_of F) R L) ((first_zero (file_table F) (file_numbered F)).0 z))
+      (first_kept (file_table F) (call_rows (project_of F) R L) ((first_zero (file_table F) (file_numbered F)).0 z))
 
   -- a call that is turned down with the number n
   pub call_refused : (n : ℕ) → refusal F R L ≡ n → n ≢ 0 →

@@ -16,7 +16,7 @@ use Rattle.casefile.specs.Sound.{Sound}
 use Rattle.project.specs.Project.{block_count, block_size, device, group_count, head_size, kind_of, order_of}
 use Rattle.project.specs.Project.{output_block}
 use Rattle.project.specs.Project.{output_count, output_port, parameters_of, word_size}
-use Rattle.casefile.proofs.Execution.{block_at-is, block_at_lt}
+use Rattle.casefile.proofs.Execution.{block_at_is, block_at_lt}
 use Rattle.block.specs.Finding.{finding_size}
 use Rattle.block.specs.State.{state_size}
 use Rattle.block.specs.Formed.{well_formed}
@@ -85,7 +85,7 @@ module _ {G B : List ℕ} {n h c : ℕ} (g : Sound G B n) (heads : h ≡ group_c
     few = rw count g.few_blocks;
     below = λ b q. rw count (g.order_below b (rw count at q));
     apart = λ a b p q. orders_apart a b (rw count at p) (rw count at q);
-    lands = λ e q. (rw count (block_at_lt g e (rw count at q)), block_at-is g e (rw count at q));
+    lands = λ e q. (rw count (block_at_lt g e (rw count at q)), block_at_is g e (rw count at q));
   }
 
   -- a block's turn

@@ -9,7 +9,7 @@ use Rattle.project.specs.Project.{Project, row_of, group_count, input_size, inpu
 use Rattle.project.specs.Project.{block_count, kind_in, parameters_in, head_size, word_size, record_size, size_counted}
 use Rattle.project.specs.Project.{output_count, counts_in}
 use Rattle.casefile.specs.Sound.{Sound, Shown}
-use Rattle.project.proofs.Counted.{is-device, is_groups, is_inputs, is_blocks, is_outputs, is_size}
+use Rattle.project.proofs.Counted.{device_is, is_groups, is_inputs, is_blocks, is_outputs, is_size}
 use Rattle.casefile.specs.Bodies.{project_of}
 use Rattle.casefile.proofs.Accepted.{Good, size_is}
 use Rattle.block.specs.State.{state_size}
@@ -20,7 +20,7 @@ use Rattle.evaluator.specs.State.{state_head, state_length, outputs_length, find
 use Rattle.evaluator.specs.Groups.{input_word}
 use Rattle.evaluator.specs.Answer.{Lent, input_fits, sizes_ok}
 use Rattle.evaluator.specs.Asks.{Few, Listed, Whole}
-use Rattle.evaluator.proofs.Reading.{record_is, cell-is}
+use Rattle.evaluator.proofs.Reading.{record_is, cell_is}
 
 -- ---- an accepted project
 
@@ -69,7 +69,7 @@ module _ {P : Project} {c : Counts} (e : c ≡ counts_in P) (t : Taken P) where
 
   pub listed : Listed c P.groups P.inputs
   listed = record {
-    device = is-device P.groups P.inputs P.blocks P.outputs e;
+    device = device_is P.groups P.inputs P.blocks P.outputs e;
     groups = groups_counted;
     inputs = is_inputs P.groups P.inputs P.blocks P.outputs e;
     size = is_size P.groups P.inputs P.blocks P.outputs e ∙ t.size;
@@ -110,7 +110,7 @@ pub block_is : (B S : List ℕ) (h b : ℕ) (Q P T : List ℕ) (k : ℕ) (x : Bo
 unfolding cell_formed
 block_is B S h b Q P T k x q t u v w =
     let here = q ∙ record_is B b in
-    w ∙ (λ i. well_formed ((u ∙ ap kind_in here) i) ((v ∙ ap parameters_in here) i) ((t ∙ cell-is h S b) i))
+    w ∙ (λ i. well_formed ((u ∙ ap kind_in here) i) ((v ∙ ap parameters_in here) i) ((t ∙ cell_is h S b) i))
 
 -- ---- 12
 

@@ -96,9 +96,9 @@ module _ {n : ℕ} (G B E R S H : List ℕ) (g : Sound G B n) (marks : E ≡ err
       ap (λ (t : Bool). group_from (device G) t R S k)
       (ap (λ (t : List ℕ). says_error t k) marks ∙ error_at h B S k (omega (arith, g.few_groups)))
 
-  phase-is : (k : ℕ) → k < h → byte_at H k ≡ phase G B R S k
+  phase_is : (k : ℕ) → k < h → byte_at H k ≡ phase G B R S k
   unfolding phase
-  phase-is k q = d.each k q ∙ ap (λ (v : ℕ). phase_of G R v k) (group_is k q)
+  phase_is k q = d.each k q ∙ ap (λ (v : ℕ). phase_of G R v k) (group_is k q)
 
   -- the blocks run from their old bytes
   cells_same : (b : ℕ) → cell h S' b ≡ cell h S b
@@ -120,7 +120,7 @@ module _ {n : ℕ} (G B E R S H : List ℕ) (g : Sound G B n) (marks : E ≡ err
         links = λ b p _. refl;
         givens = λ b p i _ _. refl;
         shown = λ a q s _. refl;
-        steps = λ b s f l. ap (λ (ph : ℕ). turned_from B R ph b s f) (phase-is (group_of B b) (g.group b l));
+        steps = λ b s f l. ap (λ (ph : ℕ). turned_from B R ph b s f) (phase_is (group_of B b) (g.group b l));
         closed = g.output;
         before = λ b p a q _ _. refl;
       }) (block_count B) (block_count B) b l (g.order_below b l) (g.order_below b l)
@@ -157,9 +157,9 @@ module _ {n : ℕ} (G B E R S H : List ℕ) (g : Sound G B n) (marks : E ≡ err
   notes = gather (block_count B) (slot_with h B R H S')
 
   -- what the finding of a block that enters 4 says is a finding
-  finding-told : (b : ℕ) → b < block_count B → enters G B R S b ≡ true → is_finding (finding G B R S b) ≡ true
+  finding_told : (b : ℕ) → b < block_count B → enters G B R S b ≡ true → is_finding (finding G B R S b) ≡ true
   unfolding finding finding_for enters turned_from
-  finding-told b l e =
+  finding_told b l e =
       let step = new_stepped G B R S g b l in
       let entered = entered_error (cell h S b) (new_block G B R S b) e in
       ap (λ (s : List ℕ). is_finding (finding_for B b (words_read G B R S b) s)) step
@@ -173,17 +173,17 @@ module _ {n : ℕ} (G B E R S H : List ℕ) (g : Sound G B n) (marks : E ≡ err
   slot_cases : (b : ℕ) → b < block_count B → (t : Bool) → enters G B R S b ≡ t →
       is_finding (slot_with h B R H S' b) ≡ t
   unfolding slot_with
-  slot_cases b l true e = rw (enters_new b l ∙ e) (ap is_finding (found_new b l) ∙ finding-told b l e)
+  slot_cases b l true e = rw (enters_new b l ∙ e) (ap is_finding (found_new b l) ∙ finding_told b l e)
   slot_cases b l false e = rw (enters_new b l ∙ e)
 
   noted-enters : (b : ℕ) → b < block_count B → is_noted notes b ≡ enters G B R S b
   unfolding is_noted
   noted-enters b l = ap is_finding (note_is b l) ∙ slot_cases b l (enters G B R S b) refl
 
-  slot-found : (b : ℕ) → b < block_count B → enters G B R S b ≡ true →
+  slot_found : (b : ℕ) → b < block_count B → enters G B R S b ≡ true →
       slot_with h B R H S' b ≡ finding G B R S b
   unfolding slot_with
-  slot-found b l e = rw (enters_new b l ∙ e) (found_new b l)
+  slot_found b l e = rw (enters_new b l ∙ e) (found_new b l)
 
   slot_empty : (b : ℕ) → b < block_count B → enters G B R S b ≡ false →
       slot_with h B R H S' b ≡ replicate finding_size 0
@@ -204,7 +204,7 @@ module _ {n : ℕ} (G B E R S H : List ℕ) (g : Sound G B n) (marks : E ≡ err
   unfolding new_findings
   findings_new =
       packed_same (finding_size * block_count B) (block_count B) _ _ _ _ noted-enters
-      (λ b l e. note_is b l ∙ slot-found b l e)
+      (λ b l e. note_is b l ∙ slot_found b l e)
 
   pub count_new : hits (block_count B) (is_noted notes) ≡ finding_count G B R S
   unfolding finding_count

@@ -7,7 +7,7 @@ use Rattle.wire.specs.Records.{gather}
 use Rattle.wire.specs.Tables.{row, first}
 use Rattle.wire.proofs.Places.{all_true}
 use Rattle.wire.proofs.Records.{length-gather, slot-gather}
-use Rattle.wire.proofs.Tables.{first_zero, first-kept, first_broken}
+use Rattle.wire.proofs.Tables.{first_zero, first_kept, first_broken}
 use Rattle.project.specs.Project.{Project, group_count, block_count, kind_of, parameters_of}
 use Rattle.casefile.specs.Sound.{Sound}
 use Rattle.casefile.specs.Bodies.{project_of}
@@ -87,7 +87,7 @@ module _ (F S : List ℕ) where
         fresh_number F S ≡ first (row 10 t ∷ [])
     unfolding fresh_number fresh_table
     number_by t e =
-        first-kept (file_table F) _ ((first_zero (file_table F) (file_numbered F)).0 z)
+        first_kept (file_table F) _ ((first_zero (file_table F) (file_numbered F)).0 z)
         ∙ ap (λ (b : Bool). first (row 10 b ∷ [])) e
 
     -- the buffer is not of the exact size

@@ -7,7 +7,7 @@ use lib.Seq.{get_or-set_same, get_or-set_other}
 use Rattle.wire.specs.Words.{byte_at}
 use Rattle.casefile.specs.Sound.{Sound}
 use Rattle.project.specs.Project.{block_count, order_of, block_at}
-use Rattle.casefile.proofs.Execution.{block_at_lt, block_at-is}
+use Rattle.casefile.proofs.Execution.{block_at_lt, block_at_is}
 use Rattle.block.specs.State.{only_if}
 use Rattle.evaluator.specs.Asks.{Ordered, Ranked, order_list}
 use Rattle.evaluator.proofs.Deciding.{row-length, row_at_is, row_is}
@@ -67,7 +67,7 @@ pub order_ranked : {G B : List ℕ} {n : ℕ} → Sound G B n → Ranked B (bloc
 unfolding order_list
 order_ranked {B = B} g = record {
   long = row-length 64 (λ e. only_if (ltb e (block_count B)) (block_at B e));
-  each = λ e l. (rw (here e l) (block_at_lt g e l), ap (order_of B) (here e l) ∙ block_at-is g e l);
+  each = λ e l. (rw (here e l) (block_at_lt g e l), ap (order_of B) (here e l) ∙ block_at_is g e l);
 }
   where
     here : (e : ℕ) → e < block_count B → byte_at (order_list B) e ≡ block_at B e

@@ -15,10 +15,10 @@ use Rattle.evaluator.specs.Cycle.{wires, port_shows}
 use Rattle.evaluator.specs.Asks.{Standing}
 
 -- its bytes in the state
-pub cell-is : (h : ℕ) (S : List ℕ) (b : ℕ) → take state_size (drop (state_head h + state_size * b) S)
+pub cell_is : (h : ℕ) (S : List ℕ) (b : ℕ) → take state_size (drop (state_head h + state_size * b) S)
     ≡ cell h S b
 unfolding cell slot
-cell-is h S b = refl
+cell_is h S b = refl
 
 -- block b's record in the body of blocks
 pub record_is : (B : List ℕ) (b : ℕ) → take block_size (drop (block_size * b) B) ≡ block_record B b

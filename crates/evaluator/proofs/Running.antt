@@ -24,10 +24,10 @@ use Rattle.evaluator.proofs.Stage.{stage, stage_words, stage_old, stage_turn}
 use Rattle.evaluator.proofs.Buffers.{Staged, staged_start, staged_put, staged_keep, staged_end}
 
 -- the lengths of a finding's record and of a block's state
-pub found-length : (B : List ℕ) (b : ℕ) (f : ℕ → ℕ) (s : List ℕ) →
+pub found_length : (B : List ℕ) (b : ℕ) (f : ℕ → ℕ) (s : List ℕ) →
     length (finding_for B b f s) ≡ finding_size
 unfolding finding_for
-found-length B b f s = finding-length b (group_of B b) (kind_of B b) (first_of B b f) (second_of B b f) s
+found_length B b f s = finding-length b (group_of B b) (kind_of B b) (first_of B b f) (second_of B b f) s
 
 cond-length : (t : Bool) (x y : List ℕ) (n : ℕ) → length x ≡ n → length y ≡ n → length (cond t x y) ≡ n
 cond-length true x y n e f = e
@@ -35,7 +35,7 @@ cond-length false x y n e f = f
 
 pub slot-length : (h : ℕ) (B R H S : List ℕ) (b : ℕ) → length (slot_with h B R H S b) ≡ finding_size
 unfolding slot_with found_with
-slot-length h B R H S b = cond-length (enters_with h B R H S b) _ _ finding_size (found-length B b _ _) refl
+slot-length h B R H S b = cond-length (enters_with h B R H S b) _ _ finding_size (found_length B b _ _) refl
 
 -- what the record of a block says, by whether it enters 4
 slot_yes : (h : ℕ) (B R H S : List ℕ) (b : ℕ) → enters_with h B R H S b ≡ true →
@@ -86,9 +86,9 @@ module _ (h : ℕ) (B R H K S₀ D₀ : List ℕ) (n : ℕ) (r : Running h B R H
   unfolding cell
   cell-slot S b = refl
 
-  pub ran-length : (b : ℕ) → b < n → length (ran_with h B R H S₀ b) ≡ state_size
+  pub ran_length : (b : ℕ) → b < n → length (ran_with h B R H S₀ b) ≡ state_size
   unfolding ran_with ran net
-  ran-length b l =
+  ran_length b l =
       ap length (fixed (net h B R (byte_at H)) (order_of B) (cell h S₀) (block_count B) b
       (rw (← r.count) (r.below b l)))
       ∙ turned-length B R (byte_at H (group_of B b)) b _ _
@@ -141,31 +141,31 @@ module _ (h : ℕ) (B R H K S₀ D₀ : List ℕ) (n : ℕ) (r : Running h B R H
         stage_words (net h B R (byte_at H)) (order_of B) (cell h S₀) (block_count B) e b (cell h S) here linked inside
         at early
 
-    pub turned-ran : turned h B R (phase_at B H b) S b ≡ ran_with h B R H S₀ b
+    pub turned_ran : turned h B R (phase_at B H b) S b ≡ ran_with h B R H S₀ b
     unfolding turned turned_from ran_with ran net
-    turned-ran =
+    turned_ran =
         stage_turn (net h B R (byte_at H)) (order_of B) (cell h S₀) (block_count B) e b (cell h S) here linked inside
         at early
 
-    pub entering-ran : entering h B R (phase_at B H b) S b ≡ enters_with h B R H S₀ b
+    pub entering_ran : entering h B R (phase_at B H b) S b ≡ enters_with h B R H S₀ b
     unfolding entering enters_with
-    entering-ran = ap₂ enters_from same_cell turned-ran
+    entering_ran = ap₂ enters_from same_cell turned_ran
 
-    noted-ran : noted h B R (phase_at B H b) S b D
+    noted_ran : noted h B R (phase_at B H b) S b D
         ≡ cond (enters_with h B R H S₀ b) (sets D (finding_size * b) (found_with h B R H S₀ b)) D
     unfolding noted found_with
-    noted-ran = λ i. cond (entering-ran i) (sets D (finding_size * b) (finding_for B b (same_words i) (turned-ran i))) D
+    noted_ran = λ i. cond (entering_ran i) (sets D (finding_size * b) (finding_for B b (same_words i) (turned_ran i))) D
 
     notes_next : (t : Bool) → enters_with h B R H S₀ b ≡ t →
         Staged 0 finding_size n (order_of B) empty (slot_with h B R H S₀) (e + 1) (noted h B R (phase_at B H b) S b D)
     notes_next true q =
         subst (Staged 0 finding_size n (order_of B) empty (slot_with h B R H S₀) (e + 1))
-        ((λ i. sets D (zero-add (finding_size * b) i) (slot_yes h B R H S₀ b q i)) ∙ sym (noted-ran ∙ rw q))
+        ((λ i. sets D (zero-add (finding_size * b) i) (slot_yes h B R H S₀ b q i)) ∙ sym (noted_ran ∙ rw q))
         (staged_put 0 finding_size n (order_of B) empty (slot_with h B R H S₀) e b D k.notes l at others
         (slot-length h B R H S₀ b))
     notes_next false q =
         subst (Staged 0 finding_size n (order_of B) empty (slot_with h B R H S₀) (e + 1))
-        (sym (noted-ran ∙ rw q))
+        (sym (noted_ran ∙ rw q))
         (staged_keep 0 finding_size n (order_of B) empty (slot_with h B R H S₀) e b D k.notes l at others
         (slot_not h B R H S₀ b q))
 
@@ -178,13 +178,13 @@ module _ (h : ℕ) (B R H K S₀ D₀ : List ℕ) (n : ℕ) (r : Running h B R H
     held_turn S' D' next i p q none = record {
       within = omega arith;
       head =
-          ap (take (state_head h)) put ∙ head_put (state_head h) state_size b (ran_with h B R H S₀ b) S (ran-length b l)
+          ap (take (state_head h)) put ∙ head_put (state_head h) state_size b (ran_with h B R H S₀ b) S (ran_length b l)
           ∙ k.head;
       cells =
           subst (Staged (state_head h) state_size n (order_of B) (cell h S₀) (ran_with h B R H S₀) (e + 1)) (sym put)
           (staged_put (state_head h) state_size n (order_of B) (cell h S₀) (ran_with h B R H S₀) e b S k.cells l at
           others
-          (ran-length b l));
+          (ran_length b l));
       notes =
           subst (Staged 0 finding_size n (order_of B) empty (slot_with h B R H S₀) (e + 1)) (sym q)
           (notes_next (enters_with h B R H S₀ b) refl);
@@ -192,12 +192,12 @@ module _ (h : ℕ) (B R H K S₀ D₀ : List ℕ) (n : ℕ) (r : Running h B R H
     }
       where
         put : S' ≡ sets S (state_head h + state_size * b) (ran_with h B R H S₀ b)
-        put = p ∙ ap (sets S (state_head h + state_size * b)) turned-ran
+        put = p ∙ ap (sets S (state_head h + state_size * b)) turned_ran
 
         missed : next ≡ false → (a : ℕ) → a < n → order_of B a < e + 1 → Dec (a ≡ b) →
             enters_with h B R H S₀ a ≡ false
         missed z a m g (yes d) =
-            subst (λ (c : ℕ). enters_with h B R H S₀ c ≡ false) (sym d) (sym entering-ran ∙ (none z).1)
+            subst (λ (c : ℕ). enters_with h B R H S₀ c ≡ false) (sym d) (sym entering_ran ∙ (none z).1)
         missed z a m g (no d) = let other = others a m d in k.none (none z).0 a m (omega (arith, other))
 
   -- when all have run

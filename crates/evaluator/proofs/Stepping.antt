@@ -18,7 +18,7 @@ use Rattle.wire.specs.Packed.{entries, packed}
 use Rattle.evaluator.specs.Cycle.{new_outputs, new_findings, enters, finding, output_word}
 use Rattle.evaluator.specs.Answer.{record_ok, Lent, Left, sizes_ok, call_rows, refusal, leaves, cycle_of}
 use Rattle.evaluator.specs.Steps.{step_answer, step_state, step_findings}
-use Rattle.evaluator.proofs.Running.{found-length}
+use Rattle.evaluator.proofs.Running.{found_length}
 use Rattle.evaluator.proofs.Checking.{Taken, taken}
 use Rattle.evaluator.proofs.Checked.{new_long, new_formed}
 use Rattle.evaluator.proofs.Calls.{rows_12, rows_none, refused_rows, call_refused, call_done}
@@ -40,7 +40,7 @@ module _ (G B R S : List ℕ) where
   pub findings_long : length (new_findings G B R S) ≡ findings_length B
   unfolding new_findings findings_length finding
   findings_long =
-      packed_long finding_size (enters G B R S) (finding G B R S) (λ b. found-length B b _ _) (block_count B)
+      packed_long finding_size (enters G B R S) (finding G B R S) (λ b. found_length B b _ _) (block_count B)
 
   pub outputs_long : (O : List ℕ) → length (new_outputs G B O R S) ≡ outputs_length O
   unfolding new_outputs outputs_length

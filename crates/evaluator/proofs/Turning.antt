@@ -56,15 +56,15 @@ module _ (h : ℕ) (B R : List ℕ) (ph : ℕ) (S : List ℕ) (b : ℕ) {new : L
   left_long T t =
       ap length (left_is T t) ∙ length-sets S (state_head h + state_size * b) (turned h B R ph S b)
 
-  pub entering-is : (x : Bool) → x ≡ enters_from (lent_to h S b) new → x ≡ entering h B R ph S b
+  pub entering_is : (x : Bool) → x ≡ enters_from (lent_to h S b) new → x ≡ entering h B R ph S b
   unfolding entering
-  entering-is x q = q ∙ ap₂ enters_from (lent_cell h S b) e
+  entering_is x q = q ∙ ap₂ enters_from (lent_cell h S b) e
 
   -- and then stands there
-  pub cell-left : (S' : List ℕ) → S' ≡ sets S (state_head h + state_size * b) (turned h B R ph S b) →
+  pub cell_left : (S' : List ℕ) → S' ≡ sets S (state_head h + state_size * b) (turned h B R ph S b) →
       cell h S' b ≡ turned h B R ph S b
   unfolding cell
-  cell-left S' q =
+  cell_left S' q =
       ap (slot (state_head h) state_size b) q
       ∙ slot_put_same (state_head h) state_size b (turned h B R ph S b) S long fits
 
@@ -74,11 +74,11 @@ module _ (h : ℕ) (B R : List ℕ) (ph : ℕ) (S : List ℕ) (b : ℕ) (D : Lis
   unfolding noted
   noted_not e = rw e
 
-  pub noted-is : (f : List ℕ) → entering h B R ph S b ≡ true →
+  pub noted_is : (f : List ℕ) → entering h B R ph S b ≡ true →
       f ≡ finding_for B b (words_at h B R S b) (turned h B R ph S b) →
       sets D (finding_size * b) f ≡ noted h B R ph S b D
   unfolding noted
-  noted-is f e q = rw e (ap (sets D (finding_size * b)) q)
+  noted_is f e q = rw e (ap (sets D (finding_size * b)) q)
 
 -- ---- a block that asks for its inputs
 
@@ -115,9 +115,9 @@ module _ {h : ℕ} {B R S Q : List ℕ} {b ph : ℕ} (t : Turning h B R S Q b ph
   -- TWOHAND
   module _ (f : family_of (kind_in Q) ≡ Twohand) (x : ℕ)
       (e : x ≡ effective_mask (parameters_in Q) (bits_from (words_of h B R S Q) 4 0)) where
-    pub hands-first : x ≡ first_read (kind_in Q) (parameters_in Q) (words_of h B R S Q)
+    pub hands_first : x ≡ first_read (kind_in Q) (parameters_in Q) (words_of h B R S Q)
     unfolding first_read first_read_of
-    hands-first = rw f e
+    hands_first = rw f e
 
     pub hands_second : 0 ≡ second_read (kind_in Q) (parameters_in Q) (words_of h B R S Q)
     unfolding second_read second_read_of
@@ -127,7 +127,7 @@ module _ {h : ℕ} {B R S Q : List ℕ} {b ph : ℕ} (t : Turning h B R S Q b ph
         twohand_bytes P ph ms x (lent_to h S b) ≡ turned h B R ph S b
     unfolding read_bytes
     twohand_turned P ms p m =
-        (λ i. twohand_bytes (p i) ph (m i) x (lent_cell h S b i)) ∙ turned_read x 0 hands-first hands_second Twohand f
+        (λ i. twohand_bytes (p i) ph (m i) x (lent_cell h S b i)) ∙ turned_read x 0 hands_first hands_second Twohand f
 
   -- arithmetic
   module _ (f : family_of (kind_in Q) ≡ Arithmetic) (x y : ℕ) (ex : x ≡ words_of h B R S Q 0)

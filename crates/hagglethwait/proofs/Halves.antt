@@ -8,7 +8,7 @@ use lib.Seq.{take-set-lt, take-set-le, drop-set-lt, drop-set-add}
 use Rattle.year.specs.declared.Line.{Line}
 use Rattle.year.specs.Ledger.{month_count}
 use Rattle.year.specs.Bends.{no_line, line_at}
-use Rattle.year.proofs.Filling.{Filled, fill_begin, fill_more, fill_done, is-from}
+use Rattle.year.proofs.Filling.{Filled, fill_begin, fill_more, fill_done, is_from}
 
 module _ {A : Type 0} (f : Line → A) where
   -- a half in which the months before k are there
@@ -19,7 +19,7 @@ module _ {A : Type 0} (f : Line → A) where
       month_count ≤ k → ys ≡ map f L
   half_done L ys k e h l =
       fill_done _ _ _ _ _ h l
-      ∙ sym (is-from (f no_line) (map f L) month_count _ (length-map L f ∙ e) (λ i m. get_or-map f L i no_line))
+      ∙ sym (is_from (f no_line) (map f L) month_count _ (length-map L f ∙ e) (λ i m. get_or-map f L i no_line))
 
   -- what the stores of month k leave of each half
   before : (xs : List A) (k : ℕ) (v w : A) → k < month_count →

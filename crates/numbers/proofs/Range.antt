@@ -149,9 +149,9 @@ settled_above t (pos n) h = rw (not_less n (under t), less h)
 settled_above t (negsuc n) h = absurd h.lt
 
 -- what the type holds is stored
-pub settled-inside : (t : NumType) (z : ℤ) → lo t ≤ℤ z → z ≤ℤ hi t → settled t z ≡ Value (word_of z)
+pub settled_inside : (t : NumType) (z : ℤ) → lo t ≤ℤ z → z ≤ℤ hi t → settled t z ≡ Value (word_of z)
 unfolding settled
-settled-inside t z l h = rw (not_less_than l, not_less_than h)
+settled_inside t z l h = rw (not_less_than l, not_less_than h)
 
 -- where a number stands, by its outcome
 data Place (t : NumType) (z : ℤ) : Outcome → Type 0 where
@@ -238,7 +238,7 @@ stored_again t w f h =
     let z = value t w in
     let l : lo t ≤ℤ z = le_z_yes (rw (and_left (le_z (lo t) z) (le_z z (hi t)) f) tt) in
     let u : z ≤ℤ hi t = le_z_yes (rw (and_right (le_z (lo t) z) (le_z z (hi t)) f) tt) in
-    settled-inside t z l u ∙ ap Value (value_word t w h)
+    settled_inside t z l u ∙ ap Value (value_word t w h)
 
 -- 0 and 1 are numbers of every type
 one_over : (t : NumType) → 1 ≤ over t

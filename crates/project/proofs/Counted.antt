@@ -30,9 +30,9 @@ module _ (G I : List ℕ) where
   size_few l m = size_counted_is (omega arith) (omega arith)
 
 module _ (G I B O : List ℕ) {c : Counts} (e : c ≡ counts_of G I B O) where
-  pub is-device : c.device ≡ device G
+  pub device_is : c.device ≡ device G
   unfolding counts_of
-  is-device = ap (λ (x : Counts). x.device) e
+  device_is = ap (λ (x : Counts). x.device) e
 
   pub is_groups : c.groups ≡ group_count G
   unfolding counts_of

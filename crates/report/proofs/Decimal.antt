@@ -162,10 +162,10 @@ unfolding signed_decimal
 signed_minus (pos n) e = absurd (true≢false (sym e))
 signed_minus (negsuc n) e = refl
 
-pub signed-plain : (z : ℤ) → is_neg z ≡ false → decimal (nat_abs z) ≡ signed_decimal z
+pub signed_plain : (z : ℤ) → is_neg z ≡ false → decimal (nat_abs z) ≡ signed_decimal z
 unfolding signed_decimal
-signed-plain (pos n) e = refl
-signed-plain (negsuc n) e = absurd (true≢false e)
+signed_plain (pos n) e = refl
+signed_plain (negsuc n) e = absurd (true≢false e)
 
 -- a number whose magnitude has 32 bits has at most 11 characters
 pub signed_eleven : (z : ℤ) → nat_abs z < 4294967296 → length (signed_decimal z) ≤ 11

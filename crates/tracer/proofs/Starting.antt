@@ -52,9 +52,9 @@ module _ (F S : List ℕ) where
     unfolding fresh_left
     is_fresh = rw z
 
-    pub is-run : run_end F ≡ end_of F
+    pub run_is : run_end F ≡ end_of F
     unfolding end_of
-    is-run = rw is_accepted refl
+    run_is = rw is_accepted refl
 
   -- the number of a state that was not written is the file's, where the state has the size of an accepted file's
   pub is_refused : (x : ℕ) →

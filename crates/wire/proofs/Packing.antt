@@ -53,9 +53,9 @@ module _ (w : ℕ) (hit : ℕ → Bool) (f : ℕ → List ℕ) where
       ap (λ (k : ℕ). entries k hit f) (add-one b) ∙ ap (λ (t : Bool). entries b hit f ++ cond t (f b) []) e
       ∙ append-nil (entries b hit f)
 
-  hits-is : (b : ℕ) (t : Bool) → hit b ≡ t → hits (b + 1) hit ≡ hits b hit + cond t 1 0
+  hits_is : (b : ℕ) (t : Bool) → hit b ≡ t → hits (b + 1) hit ≡ hits b hit + cond t 1 0
   unfolding hits
-  hits-is b t e = ap (λ (k : ℕ). hits k hit) (add-one b) ∙ ap (λ (t : Bool). hits b hit + cond t 1 0) e
+  hits_is b t e = ap (λ (k : ℕ). hits k hit) (add-one b) ∙ ap (λ (t : Bool). hits b hit + cond t 1 0) e
 
   -- the part of the buffer that is packed
   zeros : ℕ → ℕ → List ℕ
@@ -119,7 +119,7 @@ module _ (w : ℕ) (hit : ℕ → Bool) (f : ℕ → List ℕ) where
     unfolding packed zeros
     kept_miss e z = record {
       few = omega (arith, h.few);
-      count = h.count ∙ sym (hits-is b false e ∙ add-zero (hits b hit));
+      count = h.count ∙ sym (hits_is b false e ∙ add-zero (hits b hit));
       size = ap length (entries_miss b e) ∙ h.size;
       list =
           front s buffer k b h
@@ -158,7 +158,7 @@ module _ (w : ℕ) (hit : ℕ → Bool) (f : ℕ → List ℕ) where
     unfolding packed zeros
     kept_hit e long = record {
       few = omega (arith, h.few);
-      count = ap (λ (n : ℕ). n + 1) h.count ∙ sym (hits-is b true e);
+      count = ap (λ (n : ℕ). n + 1) h.count ∙ sym (hits_is b true e);
       size = ap length (entries_hit b e) ∙ length-append (entries b hit f) (f b)
           ∙ omega (arith, h.size, long, next k);
       list =

@@ -25,10 +25,10 @@ pub record Holding (rs : List Row) (n : ℕ) : Type 0 where
   pub none : n ≡ 0
   pub each : AllKept rs
 
-pub first-is : (rs : List Row) → Holding rs (first rs) ⊎ FirstIn rs (first rs)
+pub first_is : (rs : List Row) → Holding rs (first rs) ⊎ FirstIn rs (first rs)
 unfolding first
-first-is [] = inl (record { none = refl; each = λ k. refl })
-first-is (r ∷ rs) = go r.kept refl (first-is rs)
+first_is [] = inl (record { none = refl; each = λ k. refl })
+first_is (r ∷ rs) = go r.kept refl (first_is rs)
   where
     each_more : r.kept ≡ true → AllKept rs → AllKept (r ∷ rs)
     each_more e h zero = e
@@ -75,14 +75,14 @@ kept_not h f = true≢false (sym (h f.place) ∙ f.fails)
 
 module _ (rs : List Row) where
   pub first_in : {n : ℕ} → FirstIn rs n → first rs ≡ n
-  first_in {n} f = go (first-is rs)
+  first_in {n} f = go (first_is rs)
     where
       go : Holding rs (first rs) ⊎ FirstIn rs (first rs) → first rs ≡ n
       go (inl h) = absurd (kept_not h.each f)
       go (inr g) = one_first g f
 
   pub first_none : AllKept rs → first rs ≡ 0
-  first_none h = go (first-is rs)
+  first_none h = go (first_is rs)
     where
       go : Holding rs (first rs) ⊎ FirstIn rs (first rs) → first rs ≡ 0
       go (inl w) = w.none
@@ -99,14 +99,14 @@ number_some (r ∷ rs) s (suc k) f = number_some rs (both_right (ltb 0 r.number)
 
 module _ (rs : List Row) (s : numbered rs ≡ true) where
   pub first_zero : (first rs ≡ 0) ↔ AllKept rs
-  first_zero = (λ z. go z (first-is rs), first_none rs)
+  first_zero = (λ z. go z (first_is rs), first_none rs)
     where
       go : first rs ≡ 0 → Holding rs (first rs) ⊎ FirstIn rs (first rs) → AllKept rs
       go z (inl h) = h.each
       go z (inr f) = absurd (omega (arith, z, f.number, number_some rs s f.place f.fails))
 
   pub first_some : (n : ℕ) → n ≢ 0 → (first rs ≡ n) ↔ FirstIn rs n
-  first_some n p = (λ e. go e (first-is rs), first_in rs)
+  first_some n p = (λ e. go e (first_is rs), first_in rs)
     where
       go : first rs ≡ n → Holding rs (first rs) ⊎ FirstIn rs (first rs) → FirstIn rs n
       go e (inl h) = absurd (p (sym e ∙ h.none))
@@ -138,10 +138,10 @@ module _ (rs : List Row) {k : ℕ} (e : k ≡ first_bad (kept_at rs) (length rs)
 -- ---- one table after another
 
 -- the second table's number where the first is kept, the first's where it is not
-pub first-kept : (a b : List Row) → AllKept a → first (a ++ b) ≡ first b
+pub first_kept : (a b : List Row) → AllKept a → first (a ++ b) ≡ first b
 unfolding first
-first-kept [] b h = refl
-first-kept (r ∷ a) b h = rw (h 0) (first-kept a b (λ k. h (suc k)))
+first_kept [] b h = refl
+first_kept (r ∷ a) b h = rw (h 0) (first_kept a b (λ k. h (suc k)))
 
 pub first_broken : (a b : List Row) → first a ≢ 0 → first (a ++ b) ≡ first a
 unfolding first

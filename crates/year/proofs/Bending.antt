@@ -22,10 +22,10 @@ under_pos s h =
     (ltb-true 0 _ (both_left (ltb 0 s.upto.findings) _ h))
 
 -- what is larger than t is larger than whatever is not larger than t
-larger-over : (s t u : Sides) → both_sides u ≡ true → larger u t ≡ false → larger s t ≡ true →
+larger_over : (s t u : Sides) → both_sides u ≡ true → larger u t ≡ false → larger s t ≡ true →
     larger s u ≡ true
 unfolding larger
-larger-over s t u vu n h = go (dec_lt (over u * under s) (over s * under u))
+larger_over s t u vu n h = go (dec_lt (over u * under s) (over s * under u))
   where
     go : Dec (over u * under s < over s * under u) → ltb (over u * under s) (over s * under u) ≡ true
     go (yes l) = lt-ltb _ _ l
@@ -90,7 +90,7 @@ module _ (v : ℕ → Sides) (n : ℕ) where
       wins true e k q u =
           let w : larger (v m) top ≡ true =
           rw e at (both_right (both_sides (v m)) (not has || larger (v m) top) h) in
-          larger-over (v m) (v b) (v k) u (t.over e k q u) (rw (t.is e) at w)
+          larger_over (v m) (v b) (v k) u (t.over e k q u) (rw (t.is e) at w)
 
   -- one that is not
   pub keep : (has : Bool) (b : ℕ) (top : Sides) (m : ℕ) → Top has b top m → m < n →

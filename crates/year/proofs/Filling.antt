@@ -13,18 +13,18 @@ module _ {A : Type 0} (d : A) where
   length_from k zero f = refl
   length_from k (suc n) f = ap suc (length_from (suc k) n f)
 
-  pub get_or-from : (k n i : ℕ) (f : ℕ → A) → i < n → get_or (from k n f) i d ≡ f (k + i)
-  get_or-from k zero i f l = absurd (not-suc-le-zero l)
-  get_or-from k (suc n) zero f l = rw (add-zero k)
-  get_or-from k (suc n) (suc i) f l =
-      rw (add-suc k i) (get_or-from (suc k) n i f (omega arith) ∙ ap f (omega arith))
+  pub get_or_from : (k n i : ℕ) (f : ℕ → A) → i < n → get_or (from k n f) i d ≡ f (k + i)
+  get_or_from k zero i f l = absurd (not-suc-le-zero l)
+  get_or_from k (suc n) zero f l = rw (add-zero k)
+  get_or_from k (suc n) (suc i) f l =
+      rw (add-suc k i) (get_or_from (suc k) n i f (omega arith) ∙ ap f (omega arith))
 
   -- a list is the run of its elements
-  pub is-from : (xs : List A) (n : ℕ) (f : ℕ → A) → length xs ≡ n →
+  pub is_from : (xs : List A) (n : ℕ) (f : ℕ → A) → length xs ≡ n →
       ((i : ℕ) → i < n → get_or xs i d ≡ f i) → xs ≡ from 0 n f
-  is-from xs n f e h =
+  is_from xs n f e h =
       ext_get_or d xs (from 0 n f) (e ∙ sym (length_from 0 n f))
-      (λ i l. h i (omega arith) ∙ sym (get_or-from 0 n i f (omega arith) ∙ ap f (zero-add i)))
+      (λ i l. h i (omega arith) ∙ sym (get_or_from 0 n i f (omega arith) ∙ ap f (zero-add i)))
 
 -- two runs of equal elements
 pub from_same : {A : Type 0} (k n : ℕ) (f g : ℕ → A) → ((m : ℕ) → m < k + n → f m ≡ g m) →
@@ -55,4 +55,4 @@ module _ {A : Type 0} (d : A) (f : ℕ → A) (n : ℕ) where
   }
 
   pub fill_done : (xs : List A) (k : ℕ) → Filled d f n xs k → n ≤ k → xs ≡ from 0 n f
-  fill_done xs k h l = is-from d xs n f h.long (λ i m. h.each i (omega arith))
+  fill_done xs k h l = is_from d xs n f h.long (λ i m. h.each i (omega arith))

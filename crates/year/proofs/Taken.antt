@@ -18,7 +18,7 @@ use Rattle.year.specs.Months.{found, dismissed, line_of}
 use Rattle.year.specs.Bends.{no_line, line_at}
 use Rattle.year.specs.Year.{month_line, lines_of}
 use Rattle.year.specs.Asks.{Small, Counted}
-use Rattle.year.proofs.Filling.{get_or-from}
+use Rattle.year.proofs.Filling.{get_or_from}
 
 module _ (F : List ℕ) (z : ledger_number F ≡ 0) where
   row_kept : (k : ℕ) → (row_at (ledger_table F) k).kept ≡ true
@@ -56,7 +56,7 @@ taken_whenever F long contents months =
 module _ (c : Closings) (F : List ℕ) where
   pub line_is : (m : ℕ) → m < month_count → line_at (lines_of c F) m ≡ month_line c F m
   unfolding lines_of
-  line_is m l = get_or-from no_line 0 month_count m (month_line c F) l ∙ ap (month_line c F) (zero-add m)
+  line_is m l = get_or_from no_line 0 month_count m (month_line c F) l ∙ ap (month_line c F) (zero-add m)
 
   pub found_most : (m : ℕ) → found c (body_of F m) ≤ finding_count (body_of F m)
   unfolding found

@@ -3,7 +3,7 @@ use Rattle.wire.proofs.Usual.{◌≡◌, sym, ◌∙◌, List, ℕ}
 use Rattle.casefile.specs.Bodies.{body_g, body_i, body_b, body_t, project_of}
 use Rattle.casefile.proofs.Handed.{body_is}
 use Rattle.evaluator.specs.Fresh.{fresh_number}
-use Rattle.tracer.proofs.Starting.{is_accepted, is_fresh, is_refused, is-run, ordered_of}
+use Rattle.tracer.proofs.Starting.{is_accepted, is_fresh, is_refused, run_is, ordered_of}
 use Rattle.tracer.proofs.trace_cycles.Goals as goal
 
 -- the number of a state that was written
@@ -54,4 +54,4 @@ pub returns : goal.returns
 returns c =
     let F = c.args.file.now in
     let S = c.args.state.now in
-    c.run.ensures ∙ is-run F S (written F S c.fresh-number.ensures.answered c.if-number-ne0.false)
+    c.run.ensures ∙ run_is F S (written F S c.fresh-number.ensures.answered c.if-number-ne0.false)

@@ -2,7 +2,7 @@
 use Rattle.wire.proofs.Usual.{arith}
 use Rattle.casefile.proofs.Facts.{groups_are_few, inputs_whole, blocks_whole}
 use Rattle.wire.proofs.Usual.{eqb}
-use Rattle.wire.proofs.Places.{all-is}
+use Rattle.wire.proofs.Places.{all_is}
 use Rattle.wire.specs.Places.{all}
 use Rattle.project.specs.Project.{input_count, block_count, output_count}
 use Rattle.casefile.proofs.table.keeps.Goals as goal
@@ -28,24 +28,24 @@ returns-in-Groups c = rw c.in-Groups.is (λ i. eqb (c.first_bad_group.ensures i)
 
 pub returns-in-Inputs : goal.returns-in-Inputs
 unfolding input_count
-returns-in-Inputs c = rw c.in-Inputs.is (all-is _ _ c.first_bad_input.ensures)
+returns-in-Inputs c = rw c.in-Inputs.is (all_is _ _ c.first_bad_input.ensures)
 
 pub returns-in-Blocks : goal.returns-in-Blocks
 unfolding block_count
-returns-in-Blocks c = rw c.in-Blocks.is (all-is _ _ c.first_bad_block.ensures)
+returns-in-Blocks c = rw c.in-Blocks.is (all_is _ _ c.first_bad_block.ensures)
 
 pub returns-in-Orders : goal.returns-in-Orders
 unfolding block_count
-returns-in-Orders c = rw c.in-Orders.is (all-is _ _ c.first_bad_order.ensures)
+returns-in-Orders c = rw c.in-Orders.is (all_is _ _ c.first_bad_order.ensures)
 
 pub returns-in-Links : goal.returns-in-Links
 unfolding block_count
-returns-in-Links c = rw c.in-Links.is (all-is _ _ c.first_bad_links.ensures)
+returns-in-Links c = rw c.in-Links.is (all_is _ _ c.first_bad_links.ensures)
 
 pub returns-in-Outputs : goal.returns-in-Outputs
 unfolding output_count
-returns-in-Outputs c = rw c.in-Outputs.is (all-is _ _ c.first_bad_output.ensures)
+returns-in-Outputs c = rw c.in-Outputs.is (all_is _ _ c.first_bad_output.ensures)
 
 pub returns-in-Channels : goal.returns-in-Channels
 unfolding block_count
-returns-in-Channels c = rw c.in-Channels.is (all-is _ _ c.first_unread.ensures)
+returns-in-Channels c = rw c.in-Channels.is (all_is _ _ c.first_unread.ensures)

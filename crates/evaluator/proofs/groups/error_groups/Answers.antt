@@ -2,7 +2,7 @@
 use Rattle.wire.proofs.Usual.{◌≡◌, sym, ap, ◌∙◌, subst, List, ℕ, ◌+◌, arith, set}
 use Rattle.project.specs.Project.{group_in, block_count}
 use Rattle.block.specs.State.{is_error}
-use Rattle.evaluator.proofs.Reading.{cell-is, record_is}
+use Rattle.evaluator.proofs.Reading.{cell_is, record_is}
 use Rattle.evaluator.proofs.Deciding.{Marked, marked_start, marked_miss, marked_hit, marked_end}
 use Rattle.evaluator.proofs.groups.error_groups.Goals as goal
 use Rattle.evaluator.proofs.groups.error_groups.Goals.{then-is_error, else-is_error}
@@ -20,7 +20,7 @@ pub loop-b-preserved : goal.loop-b-preserved
 loop-b-preserved c =
     let a = c.args in
     let l = c.loop-b in
-    let code = c.is_error.ensures ∙ ap is_error (c.part_at.ensures ∙ cell-is a.h a.state.now l.b) in
+    let code = c.is_error.ensures ∙ ap is_error (c.part_at.ensures ∙ cell_is a.h a.state.now l.b) in
     let kept : List ℕ → Type 0 = λ m. Marked a.h a.blocks.now a.state.now m (l.b + 1) in (
       omega arith,
       elim c.if-is_error.branch [

@@ -7,7 +7,7 @@ use Rattle.block.specs.Finding.{finding_of}
 use Rattle.evaluator.specs.Net.{reads}
 use Rattle.evaluator.specs.State.{cell}
 use Rattle.evaluator.specs.Cycle.{wires}
-use Rattle.evaluator.proofs.Turning.{left_is, entering-is, cell-left, noted_not, noted-is, word_first, word_second}
+use Rattle.evaluator.proofs.Turning.{left_is, entering_is, cell_left, noted_not, noted_is, word_first, word_second}
 use Rattle.evaluator.proofs.Turning.{arithmetic_turned, found_read}
 use Rattle.evaluator.proofs.turns.arithmetic_turn.Goals as goal
 
@@ -24,7 +24,7 @@ returns-then-not-arithmetic_step c =
     c.parameters_of-p.ensures
     in
     let quiet =
-    bad (entering-is _ _ _ _ _ _ made fits _ c.arithmetic_step.ensures.enters) c.if-not-arithmetic_step.true
+    bad (entering_is _ _ _ _ _ _ made fits _ c.arithmetic_step.ensures.enters) c.if-not-arithmetic_step.true
     in record {
       left = left_is _ _ _ _ _ _ made fits _ c.arithmetic_step.ensures.left;
       told = noted_not _ _ _ _ _ _ _ quiet;
@@ -43,11 +43,11 @@ returns c =
     let second = c.port_word-y.ensures ∙ ap net c.source_of-2.ensures in
     let made = arithmetic_turned t f _ _ first second _ _ c.kind_of-kind.ensures c.parameters_of-p.ensures in
     let enters =
-    ok (entering-is _ _ _ _ _ _ made fits _ c.arithmetic_step.ensures.enters) c.if-not-arithmetic_step.false
+    ok (entering_is _ _ _ _ _ _ made fits _ c.arithmetic_step.ensures.enters) c.if-not-arithmetic_step.false
     in
     let stands = left_is _ _ _ _ _ _ made fits _ c.arithmetic_step.ensures.left in
     let said =
-    ap (finding_of a.b (group_in a.r.now) (kind_in a.r.now) _ _) (cell-left _ _ _ _ _ _ made fits _ stands)
+    ap (finding_of a.b (group_in a.r.now) (kind_in a.r.now) _ _) (cell_left _ _ _ _ _ _ made fits _ stands)
     ∙ found_read t _ _ (word_first t f _ _ first second) (word_second t f _ _ first second) _
     in
-    record { left = stands; told = c.note.ensures ∙ noted-is _ _ _ _ _ _ _ _ enters said; answered = sym enters }
+    record { left = stands; told = c.note.ensures ∙ noted_is _ _ _ _ _ _ _ _ enters said; answered = sym enters }

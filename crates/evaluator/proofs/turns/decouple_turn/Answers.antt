@@ -4,7 +4,7 @@ use Rattle.wire.proofs.Usual.{◌≡◌, sym, ◌∙◌, false, List, ℕ, eqb}
 use Rattle.block.specs.Step.{decouple_step, decouple_bytes}
 use Rattle.block.specs.State.{enters_from}
 use Rattle.block.proofs.Enters.{holds-enters}
-use Rattle.evaluator.proofs.Turning.{left_is, entering-is, decouple_turned}
+use Rattle.evaluator.proofs.Turning.{left_is, entering_is, decouple_turned}
 use Rattle.evaluator.proofs.turns.decouple_turn.Goals as goal
 
 never : (ph x : ℕ) (s : List ℕ) → enters_from s (decouple_bytes ph x) ≡ false
@@ -15,7 +15,7 @@ pub returns : goal.returns
 returns c =
     let fits = c.requires.within.1.1 in
     let made = decouple_turned c.requires.turning c.requires.r_value _ c.port_bits-x.ensures in
-    let entered = entering-is _ _ _ _ _ _ made fits _ c.decouple_step.ensures.enters in record {
+    let entered = entering_is _ _ _ _ _ _ made fits _ c.decouple_step.ensures.enters in record {
       left = left_is _ _ _ _ _ _ made fits _ c.decouple_step.ensures.left;
       answered = entered;
       quiet = sym entered ∙ c.decouple_step.ensures.enters ∙ never _ _ _;

@@ -8,7 +8,7 @@ use Rattle.block.specs.Step.{asks_inputs}
 use Rattle.evaluator.specs.State.{state_head, cell}
 use Rattle.evaluator.specs.Groups.{control_byte}
 use Rattle.evaluator.specs.Asks.{phase_at, turned, entering, noted}
-use Rattle.evaluator.proofs.Reading.{cell-is, record_is, cell_there}
+use Rattle.evaluator.proofs.Reading.{cell_is, record_is, cell_there}
 use Rattle.evaluator.proofs.Turning.{left_is, noted_not, rest_turned, rest_quiet}
 use Rattle.evaluator.proofs.turns.turn.Goals as goal
 
@@ -33,7 +33,7 @@ module _ (B Q : List ℕ) (b g : ℕ) (record_read : Q ≡ take block_size (drop
 asks_is : (h : ℕ) (S : List ℕ) (b ph : ℕ) (k ack : Bool) (T : List ℕ) (x : Bool) → k ≡ ack →
     T ≡ take state_size (drop (state_head h + state_size * b) S) → x ≡ asks_inputs ph k T →
     x ≡ asks_inputs ph ack (cell h S b)
-asks_is h S b ph k ack T x e t q = q ∙ ap₂ (asks_inputs ph) e (t ∙ cell-is h S b)
+asks_is h S b ph k ack T x e t q = q ∙ ap₂ (asks_inputs ph) e (t ∙ cell_is h S b)
 
 pub byte_at-phase-requires : goal.byte_at-phase-requires
 byte_at-phase-requires c =

@@ -4,7 +4,7 @@ use Rattle.wire.proofs.Usual.{sym, ap, ◌∙◌, arith}
 use Rattle.numbers.specs.Types.{value}
 use Rattle.numbers.specs.declared.Signed.{Signed}
 use Rattle.numbers.proofs.Range.{value_small}
-use Rattle.report.proofs.Decimal.{signed_minus, signed-plain}
+use Rattle.report.proofs.Decimal.{signed_minus, signed_plain}
 use Rattle.report.proofs.Puts.{put_first, put_second}
 use Rattle.report.proofs.pieces.put_input.Goals as goal
 
@@ -26,5 +26,5 @@ returns-clause-put c =
     let z = value c.args.t c.args.w in
     let sign = ap (λ (s : Signed). s.neg) c.load-v.ensures in
     let magnitude = ap (λ (s : Signed). s.mag) c.load-v.ensures in
-    rw (← (signed-plain z (sym sign ∙ c.if-v.false)), ← magnitude)
+    rw (← (signed_plain z (sym sign ∙ c.if-v.false)), ← magnitude)
     (put_first 32 c.put_byte.ensures c.put_decimal-2.ensures.put)
