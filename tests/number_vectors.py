@@ -3,7 +3,7 @@
 
     python3 tests/number_vectors.py
 
-writes crates/number_vectors/stdin and crates/number_vectors/stdout, always the same. `rt check` then runs the program
+writes crates/number_vectors/stdin and crates/number_vectors/stdout, always the same. `rt ci` then runs the program
 on the one and compares what it prints with the other.
 
 This is a second source for ADD, SUB, MUL and DIV: it is written from the words of document 01, "Arithmetic.", with

@@ -3,7 +3,7 @@
 
     python3 tests/report_lines.py
 
-writes crates/report_lines/stdin and crates/report_lines/stdout, always the same. `rt check` then runs the program on the one and compares
+writes crates/report_lines/stdin and crates/report_lines/stdout, always the same. `rt ci` then runs the program on the one and compares
 what it prints with the other.
 
 This is a second source for the lines of document 01, "The trace program", and for the months and bends of document 02, W4: the lines are
