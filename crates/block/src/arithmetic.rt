@@ -57,7 +57,6 @@ fn fails(phase: u8, diagnosis: u16, s: &mut [u8]) -> bool
 }
 
 // The step of an arithmetic block that asks, in place; whether it enters ERROR.
-#[tactic(auto, unfolding(crate::specs::Step::arithmetic_bytes, crate::specs::Step::arithmetic_step, crate::specs::State::decode))]
 pub fn arithmetic_step(kind: u8, p: &[u8], phase: u8, x: u32, y: u32, s: &mut [u8]) -> bool
     ensures left { s.new ≡ sets s.old 0
         (arithmetic_bytes kind p.now phase x y s.old) }

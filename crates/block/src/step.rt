@@ -25,7 +25,6 @@ pub fn asks(phase: u8, ack: bool, s: &[u8]) -> bool
 }
 
 // The step of a block that does not ask, in place.
-#[tactic(auto, unfolding(crate::specs::Step::rest_bytes, crate::specs::Step::rest_of, crate::specs::State::decode, crate::specs::State::fresh_bytes))]
 pub fn rest(phase: u8, ack: bool, s: &mut [u8])
     ensures { s.new ≡ sets s.old 0 (rest_bytes phase ack s.old) }
 {
@@ -46,7 +45,6 @@ pub fn rest(phase: u8, ack: bool, s: &mut [u8])
 }
 
 // The step of a DECOUPLE that asks, in place; whether it enters ERROR, which it never does.
-#[tactic(auto, unfolding(crate::specs::Step::decouple_bytes, crate::specs::Step::decouple_step, crate::specs::State::encode, crate::specs::State::enters_from))]
 pub fn decouple_step(phase: u8, x: u32, s: &mut [u8]) -> bool
     ensures left { s.new ≡ sets s.old 0 (decouple_bytes phase x) }
     ensures enters { result ≡ enters_from s.old (decouple_bytes phase x) }

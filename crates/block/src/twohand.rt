@@ -219,7 +219,6 @@ fn run_step(p: &[u8], ms: u16, x: u32, s: &mut [u8]) -> bool
 }
 
 // The step of a TWOHAND that asks, in place; whether it enters ERROR.
-#[tactic(auto, unfolding(crate::specs::Step::twohand_bytes, crate::specs::Step::twohand_step, crate::specs::State::decode))]
 pub fn twohand_step(p: &[u8], phase: u8, ms: u16, x: u32, s: &mut [u8]) -> bool
     ensures left { s.new ≡ sets s.old 0
         (twohand_bytes p.now phase ms x s.old) }

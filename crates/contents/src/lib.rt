@@ -33,7 +33,6 @@ fn word(file: &[u8], i: usize) -> u32
 }
 
 // Body e + 1 starts where body e ends. Where the file has both entries, one look at its size is enough.
-#[tactic(auto, unfolding(crate::specs::Contents::follows_ok, crate::specs::Contents::body_start, crate::specs::Contents::body_size))]
 fn follows(file: &[u8], e: u8) -> bool
     requires { e < 255 }
     ensures { result ≡ follows_ok file.now e }

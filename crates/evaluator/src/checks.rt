@@ -151,7 +151,6 @@ fn first_bad_word(c: Counts, inputs: &[u8], rec: &[u8]) -> usize
 }
 
 // 12: the record is one of the project's.
-#[tactic(auto, unfolding(project::specs::Project::record_size, crate::specs::Answer::record_ok, wire::specs::Places::all))]
 pub fn record_ok(c: Counts, groups: &[u8], inputs: &[u8], rec: &[u8]) -> bool
     requires { Listed c groups.now inputs.now }
     ensures { result ≡ record_ok groups.now inputs.now rec.now }

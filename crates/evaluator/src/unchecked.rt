@@ -28,7 +28,6 @@ pub fn groups_in_error(c: Counts, blocks: &[u8], state: &[u8]) -> [u8; 8]
 }
 
 // One cycle of an accepted project from a well-formed state.
-#[tactic(auto, unfolding(crate::specs::Steps::step_answer, crate::specs::Steps::step_state, crate::specs::Steps::step_findings, project::specs::Project::record_size))]
 pub fn step(
     c: Counts,
     groups: &[u8],

@@ -111,7 +111,7 @@ pub fn run_linked(groups: &[u8], g: usize) -> u8
 }
 
 // The size of a cycle record; 0 for bodies that no file has.
-#[tactic(auto, unfolding(crate::specs::Project::group_count, crate::specs::Project::input_count, crate::specs::Project::record_size))]
+#[tactic(auto, unfolding(crate::specs::Project::group_count))]
 fn size_counted(groups: &[u8], inputs: &[u8]) -> usize
     ensures { result ≡ size_counted groups.now inputs.now }
 {
@@ -124,7 +124,6 @@ fn size_counted(groups: &[u8], inputs: &[u8]) -> usize
     HEAD_SIZE + group_count(groups) + WORD_SIZE * (inputs.len() / INPUT_SIZE)
 }
 
-#[tactic(auto, unfolding(crate::specs::Project::counts_of, crate::specs::Project::input_count, crate::specs::Project::block_count, crate::specs::Project::output_count))]
 pub fn counts_of(groups: &[u8], inputs: &[u8], blocks: &[u8], outputs: &[u8]) -> Counts
     ensures { result ≡ counts_of groups.now inputs.now
         blocks.now outputs.now }

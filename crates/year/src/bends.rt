@@ -81,7 +81,6 @@ fn under_of(s: Sides) -> u64
 }
 
 // Whether the difference of s is larger than that of t.
-#[tactic(auto, using(crate::proofs::Sums::over_le, crate::proofs::Sums::under_le, crate::proofs::Sums::cross_le), unfolding(crate::specs::Bends::larger))]
 fn is_larger(s: Sides, t: Sides) -> bool
     requires { SmallSides s × SmallSides t }
     ensures { result ≡ larger s t }

@@ -37,7 +37,6 @@ fn one(so: bool) -> u32
     if so { 1 } else { 0 }
 }
 
-#[tactic(auto, using(crate::proofs::Counting::hit_begin, crate::proofs::Counting::hit_more), unfolding(crate::specs::Months::found, crate::specs::Months::dismissed))]
 fn counts_of(month: &[u8], c: Closings) -> Counts
     requires { finding_count month.now ≤ month_most }
     ensures findings { result.findings ≡ found c month.now }

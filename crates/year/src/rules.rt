@@ -119,7 +119,6 @@ fn months_ok(file: &[u8], a: MonthRule) -> bool
 }
 
 // The number with which a ledger is turned down, 0 where it is accepted.
-#[tactic(auto, unfolding(crate::specs::Ledger::ledger_number, crate::specs::Ledger::ledger_table, wire::specs::Tables::first))]
 pub fn check(file: &[u8]) -> u8
     ensures { result ≡ ledger_number file.now }
 {

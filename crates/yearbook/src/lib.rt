@@ -122,7 +122,6 @@ fn write_text(file: &[u8], text: &[u8])
 }
 
 // Tells of a ledger. Answers the number with which it is turned down, or 0.
-#[tactic(auto, using(report::proofs::Lines::printed_whole, report::proofs::Parts::put_whole), unfolding(crate::specs::Text::ledger_text, crate::specs::Text::told_number))]
 pub fn tell(file: &[u8]) -> u8
     ensures { result ≡ told_number file.now }
 {

@@ -1,5 +1,5 @@
 -- `block::arithmetic_step` meets its contract: an arm for each outcome says whether the step enters ERROR.
-use Rattle.std.proofs.Common.{sym, ◌∙◌, eqb}
+use Rattle.std.proofs.Common.{rules, sym, ◌∙◌, eqb}
 use Rattle.block.specs.State.{decode, diagnosis_of}
 use Rattle.block.specs.Step.{arithmetic_step, arithmetic_bytes}
 use Rattle.block.proofs.Enters.{fails_enters, holds-enters}
@@ -24,3 +24,15 @@ unfolding arithmetic_bytes arithmetic_step decode
 returns-in-Value-clause-enters c =
     rw (sym c.result_of-o.ensures ∙ c.in-Value.is)
     (sym (holds-enters (eqb c.args.phase 1) c.in-Value.w c.args.s.now))
+
+pub returns-in-Below-clause-left : goal.returns-in-Below-clause-left
+unfolding arithmetic_bytes arithmetic_step decode
+returns-in-Below-clause-left c = search rules
+
+pub returns-in-Above-clause-left : goal.returns-in-Above-clause-left
+unfolding arithmetic_bytes arithmetic_step decode
+returns-in-Above-clause-left c = search rules
+
+pub returns-in-Value-clause-left : goal.returns-in-Value-clause-left
+unfolding arithmetic_bytes arithmetic_step decode
+returns-in-Value-clause-left c = search rules
