@@ -1,5 +1,5 @@
 -- A finding more in each turn; at the end the counts are the definitions'.
-use Rattle.std.proofs.Common.{arith, rules}
+use Rattle.std.proofs.Common.{arith}
 use Rattle.year.specs.Months.{found, dismissed}
 use Rattle.year.proofs.Counting.{hit_begin, hit_more}
 use Rattle.year.proofs.months.counts_of.Goals as goal
