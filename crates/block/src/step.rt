@@ -25,6 +25,7 @@ pub fn asks(phase: u8, ack: bool, s: &[u8]) -> bool
 }
 
 // The step of a block that does not ask, in place.
+#[tactic(auto, unfolding(crate::specs::Step::rest_bytes, crate::specs::Step::rest_of, crate::specs::State::decode))]
 pub fn rest(phase: u8, ack: bool, s: &mut [u8])
     ensures { s.new ≡ sets s.old 0 (rest_bytes phase ack s.old) }
 {

@@ -1,13 +1,13 @@
 -- What a fresh state that was written, or was not, says of its file, and what an accepted file's bodies and counts give
 -- to each call of a trace. Assumes nothing.
 use Rattle.wire.proofs.Usual.{◌≡◌, refl, sym, ap, ap₂, ◌∙◌, ◌≢◌, Bool, true, false, cond, ◌&&◌, List, [], ℕ}
-use Rattle.wire.proofs.Usual.{zero, suc, ◌+◌, ◌-◌, ◌*◌, ◌/◌, ◌<◌, ◌≤◌, ℕ_discrete, arith, ltb, length, replicate, take}
+use Rattle.wire.proofs.Usual.{zero, suc, ◌+◌, ◌*◌, ◌/◌, ◌<◌, ◌≤◌, ℕ_discrete, arith, ltb, length, replicate, take}
 use Rattle.wire.proofs.Usual.{drop, length-drop, length-take-le, length-replicate}
 use borrow.Author.Tests.{leb-true}
 use native.Mathlib.Nat.{div-le_self, min-le_right}
 use lib.Dec.{leb}
-use lib.ListN.{length-take, replicate-append-replicate}
-use lib.Seq.{take_at}
+use lib.ListN.{length-take}
+use Rattle.std.proofs.lemmas.List.{take-replicate}
 use Rattle.wire.specs.Tables.{first}
 use Rattle.wire.proofs.Places.{both_right}
 use Rattle.contents.specs.Contents.{contents_size, contents_ok, body_start, body_size, body_of}
@@ -88,13 +88,6 @@ body_short F e = go (contents_ok body_count F && ltb e body_count)
 pub taken_of : (F : List ℕ) → first (file_table F) ≡ 0 → Taken (project_of F)
 taken_of F z = taken F (accepted F (number_zero F z))
 
--- the front of an array of zeros
-zeros_front : (k n : ℕ) → k ≤ n → ◌≡◌ {A = List ℕ} (take k (replicate n 0)) (replicate k 0)
-zeros_front k n l =
-    let sum : k + (n - k) ≡ n = omega arith in
-    ap (take k) (sym (replicate-append-replicate k (n - k) 0 ∙ ap (λ (m : ℕ). replicate m 0) sum))
-    ∙ take_at (replicate k 0) (replicate (n - k) 0) k (length-replicate {A = ℕ} k 0)
-
 module _ (F : List ℕ) {c : Counts} (e : c ≡ counts_in (project_of F)) (z : first (file_table F) ≡ 0) where
   -- the part of the state, of g groups and n blocks
   pub state_sized : {g n : ℕ} → g ≤ 8 → n ≤ 64 → (c.groups ≤ 8 → g ≡ c.groups) → (c.blocks ≤ 64 → n ≡ c.blocks) →
@@ -111,7 +104,7 @@ module _ (F : List ℕ) {c : Counts} (e : c ≡ counts_in (project_of F)) (z : f
       take {A = ℕ} (finding_size * n) (replicate 1024 0) ≡ replicate (findings_length (project_of F).blocks) 0
   findings_zero {n} b q =
       let t = taken_of F z in
-      zeros_front (finding_size * n) 1024 (omega arith)
+      take-replicate (finding_size * n) 1024 0 (omega arith)
       ∙ ap (λ (n : ℕ). replicate n 0) (ap (λ (n : ℕ). finding_size * n) (q (few e t).1.0) ∙ notes_counted e t)
 
 -- it is no longer than 65,536 bytes, so it has no more records
