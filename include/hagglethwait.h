@@ -4,9 +4,9 @@
  * between calls, allocates nothing and calls nothing but memcpy and memset, and every call returns. Calls that write to
  * different buffers may run at the same time.
  *
- * What is promised below is proved, for every content and every length of every buffer (crates/hagglethwait/src/lib.rt
- * has the promises as equations, Calls.antt and Ledgers.antt in crates/hagglethwait/specs and Ledger.antt in
- * crates/year/specs the limits by name). It rests on what a caller in C has to see to:
+ * What is promised below is proved, for every content and every length of every buffer
+ * (crates/hagglethwait_c/src/lib.rt has the promises as equations, Calls.antt and Ledgers.antt in
+ * crates/hagglethwait/specs and Ledger.antt in crates/year/specs the limits by name). It rests on what a caller in C has to see to:
  *   - a pointer is not null, also where its length is 0, and points to as many bytes as its length says, or to a whole
  *     array or number of its type, aligned as C aligns it;
  *   - a buffer that a call writes (not `const`) overlaps no other argument of that call;
