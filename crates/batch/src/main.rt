@@ -12,13 +12,12 @@
 // line on standard error; answers already given stand.
 #![tactic(auto)]
 
-ghost use Rattle.io.specs.Counts.{IsPrefixLen};
-
 mod ledgers;
 
-use evaluator::Answer;
+use evaluator::Refusal;
 
-// The file descriptors of standard input, output and error.
+// The file descriptors of standard input, output and error. (The crate `io` says how many bytes came, also where the
+// input ends; `read_exact` of `std::io` does not.)
 const STDIN_FILENO: i32 = 0;
 
 const STDOUT_FILENO: i32 = 1;
@@ -30,80 +29,67 @@ const FILE_ROOM: usize = 294937;
 
 const ROOM: usize = 8192;
 
-const CHECK: u8 = b'C';
-
-const CYCLE: u8 = b'Y';
-
-const LEDGER: u8 = b'L';
-
 // What can be wrong with a request.
-const NO_FAULT: u8 = 0;
-
-const TOO_LONG: u8 = 1;
-
-const BROKEN_OFF: u8 = 2;
-
-const UNKNOWN: u8 = 3;
-
-// A buffer as it came: its length, 0 where it did not come, and what is wrong.
-#[derive(Clone, Copy)]
-struct Received {
-    size: usize,
-    fault: u8,
+#[derive(Clone, Copy, Debug, PartialEq, Eq)]
+enum Fault {
+    TooLong,
+    BrokenOff,
+    UnknownLetter,
 }
 
-// Says what is wrong.
-fn say(fault: u8) -> bool {
-    match fault {
-        TOO_LONG => io::write_all(STDERR_FILENO, b": a buffer is longer than its room\n"),
-        BROKEN_OFF => io::write_all(STDERR_FILENO, b": the input ends in the middle of it\n"),
-        _ => io::write_all(STDERR_FILENO, b": its letter is none of C, L and Y\n"),
+impl Fault {
+    fn text(self) -> &'static [u8] {
+        match self {
+            Fault::TooLong => b": a buffer is longer than its room\n",
+            Fault::BrokenOff => b": the input ends in the middle of it\n",
+            Fault::UnknownLetter => b": its letter is none of C, L and Y\n",
+        }
     }
 }
 
-// Says which request cannot be answered and why. Answers that there is nothing more to serve.
-fn complain(request: u64, fault: u8) -> bool {
+// What is asked.
+#[derive(Clone, Copy, Debug, PartialEq, Eq)]
+enum Request {
+    Check,
+    Cycle,
+    Ledger,
+}
+
+impl TryFrom<u8> for Request {
+    type Error = Fault;
+
+    fn try_from(letter: u8) -> Result<Request, Fault> {
+        match letter {
+            b'C' => Ok(Request::Check),
+            b'Y' => Ok(Request::Cycle),
+            b'L' => Ok(Request::Ledger),
+            _ => Err(Fault::UnknownLetter),
+        }
+    }
+}
+
+// Says which request cannot be answered and why.
+fn complain(request: u64, fault: Fault) {
     io::write_all(STDERR_FILENO, b"batch: request ");
     io::print_decimal(STDERR_FILENO, request);
-    say(fault);
-    false
+    io::write_all(STDERR_FILENO, fault.text());
 }
 
-// The length of the next buffer and its bytes, at the start of `room`. Nothing is read where something was wrong
-// before.
-fn receive(room: &mut [u8], before: u8) -> Received
-    ensures { IsPrefixLen result.size room.new }
-{
-    if before != NO_FAULT {
-        return Received {
-            size: 0,
-            fault: before,
-        };
-    }
+// The next buffer, at the start of `room`.
+fn receive(room: &mut [u8]) -> Result<&mut [u8], Fault> {
     let mut length = [0u8; 4];
     if io::read_full(STDIN_FILENO, &mut length) < 4 {
-        return Received {
-            size: 0,
-            fault: BROKEN_OFF,
-        };
+        return Err(Fault::BrokenOff);
     }
-    let size = wire::read32(&length, 0) as usize;
+    let size = u32::from_le_bytes(length) as usize;
     if room.len() < size {
-        return Received {
-            size: 0,
-            fault: TOO_LONG,
-        };
+        return Err(Fault::TooLong);
     }
-    if io::read_full(STDIN_FILENO, &mut room[..size]) < size {
-        return Received {
-            size: 0,
-            fault: BROKEN_OFF,
-        };
+    let buffer = &mut room[..size];
+    if io::read_full(STDIN_FILENO, buffer) < size {
+        return Err(Fault::BrokenOff);
     }
-    Received {
-        size,
-        fault: NO_FAULT,
-    }
+    Ok(buffer)
 }
 
 // The front of an answer to a cycle: the refusal or 0, and the count of findings.
@@ -112,10 +98,10 @@ fn front(refusal: u8, count: u32) -> [u8; 5] {
     [refusal, c[0], c[1], c[2], c[3]]
 }
 
-fn front_of(answer: Answer) -> [u8; 5] {
+fn front_of(answer: Result<u32, Refusal>) -> [u8; 5] {
     match answer {
-        Answer::Findings(count) => front(0, count),
-        Answer::Refused(number) => front(number, 0),
+        Ok(count) => front(0, count),
+        Err(refusal) => front(refusal.number(), 0),
     }
 }
 
@@ -140,124 +126,58 @@ fn answer_cycle(
         & io::write_all(STDOUT_FILENO, findings)
 }
 
-// The rest of a request to measure a ledger. Answers whether to go on.
-fn serve_ledger(request: u64, file: &mut [u8]) -> bool {
-    let got = receive(file, NO_FAULT);
-    let fault = got.fault;
-    if fault != NO_FAULT {
-        return complain(request, fault);
-    }
-    let size = got.size;
-    ledgers::answer_ledger(&file[..size])
+// The room for each buffer of a request.
+#[derive(Drop)]
+struct Rooms {
+    file: [u8; FILE_ROOM],
+    record: [u8; ROOM],
+    state: [u8; ROOM],
+    outputs: [u8; ROOM],
+    findings: [u8; ROOM],
 }
 
-// The rest of a request to check a file. Answers whether to go on.
-fn serve_check(request: u64, file: &mut [u8]) -> bool {
-    let got = receive(file, NO_FAULT);
-    let fault = got.fault;
-    if fault != NO_FAULT {
-        return complain(request, fault);
+impl Rooms {
+    // The rest of a request for a cycle. Answers whether to go on.
+    fn serve_cycle(&mut self) -> Result<bool, Fault> {
+        let file = receive(&mut self.file)?;
+        let record = receive(&mut self.record)?;
+        let state = receive(&mut self.state)?;
+        let outputs = receive(&mut self.outputs)?;
+        let findings = receive(&mut self.findings)?;
+        Ok(answer_cycle(file, record, state, outputs, findings))
     }
-    let size = got.size;
-    answer_check(&file[..size])
-}
 
-// The rest of a request for a cycle, whose file has come if there is no fault before. Answers whether to go on.
-fn serve_lent(
-    request: u64,
-    before: u8,
-    file: &[u8],
-    record: &mut [u8],
-    state: &mut [u8],
-    outputs: &mut [u8],
-    findings: &mut [u8],
-) -> bool {
-    let a = receive(record, before);
-    let b = receive(state, a.fault);
-    let c = receive(outputs, b.fault);
-    let d = receive(findings, c.fault);
-    let fault = d.fault;
-    if fault != NO_FAULT {
-        return complain(request, fault);
+    // One request. Answers whether to go on: at the end of the input there is none.
+    fn serve(&mut self) -> Result<bool, Fault> {
+        let mut letter = [0u8; 1];
+        if io::read_full(STDIN_FILENO, &mut letter) == 0 {
+            return Ok(false);
+        }
+        match Request::try_from(letter[0])? {
+            Request::Check => Ok(answer_check(receive(&mut self.file)?)),
+            Request::Ledger => Ok(ledgers::answer_ledger(receive(&mut self.file)?)),
+            Request::Cycle => self.serve_cycle(),
+        }
     }
-    let i = a.size;
-    let j = b.size;
-    let k = c.size;
-    let l = d.size;
-    answer_cycle(
-        file,
-        &record[..i],
-        &mut state[..j],
-        &mut outputs[..k],
-        &mut findings[..l],
-    )
-}
-
-// The rest of a request for a cycle. Answers whether to go on.
-fn serve_cycle(
-    request: u64,
-    file: &mut [u8],
-    record: &mut [u8],
-    state: &mut [u8],
-    outputs: &mut [u8],
-    findings: &mut [u8],
-) -> bool {
-    let got = receive(file, NO_FAULT);
-    let size = got.size;
-    let fault = got.fault;
-    serve_lent(
-        request,
-        fault,
-        &file[..size],
-        record,
-        state,
-        outputs,
-        findings,
-    )
-}
-
-// One request. Answers whether to go on: at the end of the input there is none.
-fn serve(
-    request: u64,
-    file: &mut [u8],
-    record: &mut [u8],
-    state: &mut [u8],
-    outputs: &mut [u8],
-    findings: &mut [u8],
-) -> bool {
-    let mut letter = [0u8; 1];
-    if io::read_full(STDIN_FILENO, &mut letter) == 0 {
-        return false;
-    }
-    if letter[0] == CHECK {
-        return serve_check(request, file);
-    }
-    if letter[0] == LEDGER {
-        return serve_ledger(request, file);
-    }
-    if letter[0] == CYCLE {
-        return serve_cycle(request, file, record, state, outputs, findings);
-    }
-    complain(request, UNKNOWN)
 }
 
 // Nothing says that the input ends, so the loop counts the requests, up to a number that no run reaches.
 fn main() {
-    let mut file_room = [0u8; FILE_ROOM];
-    let mut record_room = [0u8; ROOM];
-    let mut state_room = [0u8; ROOM];
-    let mut outputs_room = [0u8; ROOM];
-    let mut findings_room = [0u8; ROOM];
-    let file: &mut [u8] = &mut file_room;
-    let record: &mut [u8] = &mut record_room;
-    let state: &mut [u8] = &mut state_room;
-    let outputs: &mut [u8] = &mut outputs_room;
-    let findings: &mut [u8] = &mut findings_room;
-    let mut request = 1;
-    while request < u64::MAX {
-        if !serve(request, file, record, state, outputs, findings) {
-            return;
+    let mut rooms = Rooms {
+        file: [0; FILE_ROOM],
+        record: [0; ROOM],
+        state: [0; ROOM],
+        outputs: [0; ROOM],
+        findings: [0; ROOM],
+    };
+    for request in 1..u64::MAX {
+        match rooms.serve() {
+            Ok(true) => {}
+            Ok(false) => return,
+            Err(fault) => {
+                complain(request, fault);
+                return;
+            }
         }
-        request += 1;
     }
 }

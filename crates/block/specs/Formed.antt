@@ -1,11 +1,12 @@
 -- Which bytes of a block are well formed. 01, "Block state".
 use Rattle.std.specs.Prelude.{ℕ, ◌+◌, ◌/◌, ◌%◌, Bool, false, not, cond, ◌&&◌, ◌||◌, List, eqb, leb, ltb}
+use Rattle.std.specs.Prelude.{Option, Some, None}
 use Rattle.wire.specs.Words.{byte_at}
 use Rattle.numbers.specs.Types.{type_of, inside}
 use Rattle.kind.specs.Kinds.{family_of}
 use Rattle.kind.specs.Parameters.{limits_of, output_type}
 use Rattle.kind.specs.declared.Family.{Family}
-use Rattle.kind.specs.declared.Family.TheVariants.{Decouple, Twohand, Arithmetic, Unknown}
+use Rattle.kind.specs.declared.Family.TheVariants.{Decouple, Twohand, Arithmetic}
 use Rattle.kind.specs.declared.Limits.{Limits}
 use Rattle.block.specs.State.{RUN, STOP, ERROR, RESET, is_waiting, is_counting, decode}
 use Rattle.block.specs.declared.BlockState.{BlockState}
@@ -82,11 +83,11 @@ twohand_ok l c =
     && eqb c.output 0
 
 -- 01, "Block state": a state of a block of a family with parameters P; what is no kind has none
-unfoldable pub formed : Family → List ℕ → BlockState → Bool
-formed Decouple P c = decouple_ok c
-formed Twohand P c = twohand_ok (limits_of P) c
-formed Arithmetic P c = arithmetic_ok (output_type P) c
-formed Unknown P c = false
+unfoldable pub formed : Option Family → List ℕ → BlockState → Bool
+formed (Some Decouple) P c = decouple_ok c
+formed (Some Twohand) P c = twohand_ok (limits_of P) c
+formed (Some Arithmetic) P c = arithmetic_ok (output_type P) c
+formed None P c = false
 
 -- 01, "Block state": bytes 1, 10 and 11 are 0
 abbrev pub spare_ok : List ℕ → Bool

@@ -8,25 +8,27 @@ ghost use Rattle.block.specs.Step.{arithmetic_bytes};
 
 use crate::state::{diagnosis_of, in_error, is_error, keep, plain, running};
 use crate::{PHASE_RUN, RESET};
+use kind::Kind;
+use numbers::{NumType, Op, OutOfRange, Rounding};
 
-// The result of the two inputs in the output's type.
+// The result of the two inputs in the output's type; DIV alone has a rounding. (The operation is known in each arm, so
+// that the compiled code looks at the kind once: with one call for all, ADD takes an eighth more instructions.)
 #[tactic(auto, unfolding(crate::specs::Arithmetic::result_of, crate::specs::Arithmetic::op_of))]
-fn result_of(kind: u8, p: &[u8], x: u32, y: u32) -> numbers::Outcome
+fn result_of(kind: u8, p: &[u8], x: u32, y: u32) -> Result<u32, OutOfRange>
     ensures { result ≡ result_of kind p.now x y }
 {
-    let ta = numbers::type_of(kind::first_type(p));
-    let tb = numbers::type_of(kind::second_type(p));
-    let t = numbers::type_of(kind::output_type(p));
-    if kind == kind::ADD {
-        return numbers::sum(ta, x, tb, y, t);
+    let ta = NumType::from(kind::first_type(p));
+    let tb = NumType::from(kind::second_type(p));
+    let t = NumType::from(kind::output_type(p));
+    match Kind::try_from(kind) {
+        Ok(Kind::Add) => numbers::compute(Op::Add, ta, x, tb, y, t),
+        Ok(Kind::Sub) => numbers::compute(Op::Sub, ta, x, tb, y, t),
+        Ok(Kind::Mul) => numbers::compute(Op::Mul, ta, x, tb, y, t),
+        _ => {
+            let rounding = Rounding::from(kind::rounding(p));
+            numbers::compute(Op::Div(rounding), ta, x, tb, y, t)
+        }
     }
-    if kind == kind::SUB {
-        return numbers::difference(ta, x, tb, y, t);
-    }
-    if kind == kind::MUL {
-        return numbers::product(ta, x, tb, y, t);
-    }
-    numbers::quotient(numbers::rounding_of(kind::rounding(p)), ta, x, tb, y, t)
 }
 
 // The output holds the result: RUN with it in phase RUN, else the fault is gone. It does not enter ERROR.
@@ -34,11 +36,12 @@ fn holds(phase: u8, w: u32, s: &mut [u8])
     ensures { s.new ≡ sets s.old 0
         (encode (cond (eqb phase phase_run) (running w) (plain RESET))) }
 {
-    if phase == PHASE_RUN {
-        keep(s, running(w));
-        return;
-    }
-    keep(s, plain(RESET));
+    let left = if phase == PHASE_RUN {
+        running(w)
+    } else {
+        plain(RESET)
+    };
+    keep(s, left);
 }
 
 // The output does not: ERROR with this diagnosis in phase RUN, else with the one that it has.
@@ -48,11 +51,12 @@ fn fails(phase: u8, diagnosis: u16, s: &mut [u8]) -> bool
     ensures enters { result ≡ not (is_error s.old) }
 {
     let was = is_error(s);
-    if phase == PHASE_RUN {
-        keep(s, in_error(diagnosis));
-        return !was;
-    }
-    keep(s, in_error(diagnosis_of(s)));
+    let told = if phase == PHASE_RUN {
+        diagnosis
+    } else {
+        diagnosis_of(s)
+    };
+    keep(s, in_error(told));
     !was
 }
 
@@ -63,13 +67,11 @@ pub fn arithmetic_step(kind: u8, p: &[u8], phase: u8, x: u32, y: u32, s: &mut [u
     ensures enters { result ≡ enters_from s.old
         (arithmetic_bytes kind p.now phase x y s.old) }
 {
-    let o = result_of(kind, p, x, y);
-    match o {
-        numbers::Outcome::Below => fails(phase, 1, s),
-        numbers::Outcome::Above => fails(phase, 2, s),
-        numbers::Outcome::Value(w) => {
+    match result_of(kind, p, x, y) {
+        Ok(w) => {
             holds(phase, w, s);
             false
         }
+        Err(out) => fails(phase, out.diagnosis(), s),
     }
 }

@@ -7,37 +7,22 @@ use crate::state::diagnosis_of;
 use crate::{FINDING_SIZE, FindingRecord};
 use kind::Family;
 
-fn text_id(family: Family, diagnosis: u16) -> u16
+fn text_id(family: Option<Family>, diagnosis: u16) -> u16
     ensures { result ≡ text_id family diagnosis }
 {
     match family {
-        Family::Decouple => 0,
-        Family::Twohand => 0,
-        Family::Arithmetic => numbers::text_of(diagnosis),
-        Family::Unknown => 0,
+        Some(Family::Arithmetic) => numbers::text_of(diagnosis),
+        Some(Family::Decouple | Family::Twohand) | None => 0,
     }
 }
 
-// The first input that a finding names, of a block that read x and y, and the second.
-fn first_named(family: Family, x: u32, y: u32) -> u32
-    ensures { result ≡ first_named family x y }
+// The two inputs that a finding names, of a block that read x and y.
+fn inputs_named(family: Option<Family>, x: u32, y: u32) -> (u32, u32)
+    ensures { result ≡ record { 0 = first_named family x y; 1 = second_named family x y } }
 {
     match family {
-        Family::Decouple => x,
-        Family::Twohand => x,
-        Family::Arithmetic => x,
-        Family::Unknown => x,
-    }
-}
-
-fn second_named(family: Family, x: u32, y: u32) -> u32
-    ensures { result ≡ second_named family x y }
-{
-    match family {
-        Family::Decouple => 0,
-        Family::Twohand => 0,
-        Family::Arithmetic => y,
-        Family::Unknown => 0,
+        Some(Family::Arithmetic) => (x, y),
+        Some(Family::Decouple | Family::Twohand) | None => (x, 0),
     }
 }
 
@@ -46,23 +31,12 @@ fn second_named(family: Family, x: u32, y: u32) -> u32
 fn finding_bytes(f: FindingRecord) -> [u8; FINDING_SIZE]
     ensures { result ≡ finding_bytes f }
 {
+    let [t0, t1] = f.text.to_le_bytes();
+    let [d0, d1] = f.diagnosis.to_le_bytes();
+    let [a0, a1, a2, a3] = f.first.to_le_bytes();
+    let [b0, b1, b2, b3] = f.second.to_le_bytes();
     [
-        f.block,
-        f.group,
-        (f.text % 256) as u8,
-        (f.text / 256 % 256) as u8,
-        (f.diagnosis % 256) as u8,
-        (f.diagnosis / 256 % 256) as u8,
-        0,
-        0,
-        (f.first % 256) as u8,
-        (f.first / 256 % 256) as u8,
-        (f.first / 65536 % 256) as u8,
-        (f.first / 16777216 % 256) as u8,
-        (f.second % 256) as u8,
-        (f.second / 256 % 256) as u8,
-        (f.second / 65536 % 256) as u8,
-        (f.second / 16777216 % 256) as u8,
+        f.block, f.group, t0, t1, d0, d1, 0, 0, a0, a1, a2, a3, b0, b1, b2, b3,
     ]
 }
 
@@ -73,13 +47,14 @@ pub fn finding(number: u8, group: u8, kind: u8, x: u32, y: u32, s: &[u8]) -> [u8
 {
     let family = kind::family_of(kind);
     let diagnosis = diagnosis_of(s);
+    let (first, second) = inputs_named(family, x, y);
     finding_bytes(FindingRecord {
         block: number,
         group,
         text: text_id(family, diagnosis),
         diagnosis,
-        first: first_named(family, x, y),
-        second: second_named(family, x, y),
+        first,
+        second,
     })
 }
 
@@ -87,7 +62,7 @@ pub fn finding(number: u8, group: u8, kind: u8, x: u32, y: u32, s: &[u8]) -> [u8
 pub fn is_finding(f: &[u8]) -> bool
     ensures { result ≡ is_finding f.now }
 {
-    !(wire::read16(f, 4) == 0)
+    wire::read16(f, 4) != 0
 }
 
 // What the bytes of a finding say.

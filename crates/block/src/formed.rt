@@ -1,17 +1,42 @@
 // Which bytes of a block are well formed.
 ghost use Rattle.std.specs.Prelude.{◌≡◌};
 ghost use Rattle.block.specs.State.{is_counting};
-ghost use Rattle.block.specs.Formed.{untimed, decouple_ok, arithmetic_diagnosis, arithmetic_ok, twohand_bits};
+ghost use Rattle.block.specs.Formed.{decouple_code, arithmetic_code, twohand_code, untimed, zero_outside};
+ghost use Rattle.block.specs.Formed.{decouple_ok, arithmetic_diagnosis, arithmetic_ok, twohand_bits};
 ghost use Rattle.block.specs.Formed.{twohand_diagnosis, pair_time_ok, entry_ok, twohand_ok, formed, well_formed};
 
 use crate::state::decoded;
+use crate::twohand::is_waiting;
 use crate::{BUTTON1, BUTTON2, BlockState, ERROR, RELEASE, RESET, RUN, SAFE, STOP};
 use kind::{Family, Limits};
+use numbers::NumType;
 
 fn is_counting(code: u8) -> bool
     ensures { result ≡ is_counting code }
 {
-    (code == RUN) | (code == SAFE) | ((code == BUTTON1) | (code == BUTTON2)) | (code == RELEASE)
+    matches!(code, RUN | SAFE | BUTTON1 | BUTTON2 | RELEASE)
+}
+
+// The codes that each family has.
+fn decouple_code(code: u8) -> bool
+    ensures { result ≡ decouple_code code }
+{
+    matches!(code, RUN | STOP)
+}
+
+fn arithmetic_code(code: u8) -> bool
+    ensures { result ≡ arithmetic_code code }
+{
+    matches!(code, RUN | STOP | ERROR | RESET)
+}
+
+fn twohand_code(code: u8) -> bool
+    ensures { result ≡ twohand_code code }
+{
+    match code {
+        STOP | ERROR | RESET => true,
+        _ => is_counting(code),
+    }
 }
 
 fn untimed(c: BlockState) -> bool
@@ -20,27 +45,27 @@ fn untimed(c: BlockState) -> bool
     (c.first == 0) & (c.second == 0) & (c.entry == 0)
 }
 
+fn zero_outside(c: BlockState) -> bool
+    ensures { result ≡ zero_outside c }
+{
+    (c.code == RUN) | (c.output == 0)
+}
+
 #[tactic(auto, unfolding(crate::specs::Formed::decouple_ok))]
 fn decouple_ok(c: BlockState) -> bool
     ensures { result ≡ decouple_ok c }
 {
-    let code = c.code;
-    let diagnosis = c.diagnosis;
-    let output = c.output;
-    ((code == RUN) | (code == STOP))
-        & (diagnosis == 0)
-        & untimed(c)
-        & (output < 256)
-        & ((code == RUN) | (output == 0))
+    decouple_code(c.code) & (c.diagnosis == 0) & untimed(c) & (c.output < 256) & zero_outside(c)
 }
 
 fn arithmetic_diagnosis(code: u8, d: u16) -> bool
     ensures { result ≡ arithmetic_diagnosis code d }
 {
     if code == ERROR {
-        return (d == 1) | (d == 2);
+        matches!(d, 1 | 2)
+    } else {
+        d == 0
     }
-    d == 0
 }
 
 // t is the output's type.
@@ -48,13 +73,11 @@ fn arithmetic_diagnosis(code: u8, d: u16) -> bool
 fn arithmetic_ok(t: u8, c: BlockState) -> bool
     ensures { result ≡ arithmetic_ok t c }
 {
-    let code = c.code;
-    let output = c.output;
-    ((code == RUN) | (code == STOP) | (code == ERROR) | (code == RESET))
-        & arithmetic_diagnosis(code, c.diagnosis)
+    arithmetic_code(c.code)
+        & arithmetic_diagnosis(c.code, c.diagnosis)
         & untimed(c)
-        & numbers::fits(numbers::type_of(t), output)
-        & ((code == RUN) | (output == 0))
+        & NumType::from(t).fits(c.output)
+        & zero_outside(c)
 }
 
 // The diagnosis of a TWOHAND in ERROR.
@@ -62,7 +85,7 @@ fn arithmetic_ok(t: u8, c: BlockState) -> bool
 fn twohand_bits(l: Limits, d: u16) -> bool
     ensures { result ≡ twohand_bits l d }
 {
-    !(d == 0)
+    (d != 0)
         & (d < 128)
         & (d / 8 % 8 == 0)
         & ((d % 2 == 0) | (0 < l.first))
@@ -75,9 +98,10 @@ fn twohand_diagnosis(l: Limits, code: u8, d: u16) -> bool
     ensures { result ≡ twohand_diagnosis l code d }
 {
     if code == ERROR {
-        return twohand_bits(l, d);
+        twohand_bits(l, d)
+    } else {
+        d == 0
     }
-    d == 0
 }
 
 #[tactic(auto, unfolding(crate::specs::Formed::pair_time_ok))]
@@ -91,32 +115,30 @@ fn pair_time_ok(d: u16, code: u8, time: u16) -> bool
 fn entry_ok(t: u16, code: u8, time: u16) -> bool
     ensures { result ≡ entry_ok t code time }
 {
-    (time <= t) & ((time == 0) | ((code == BUTTON1) | (code == BUTTON2)))
+    (time <= t) & ((time == 0) | is_waiting(code))
 }
 
 #[tactic(auto, unfolding(crate::specs::Formed::twohand_ok))]
 fn twohand_ok(l: Limits, c: BlockState) -> bool
     ensures { result ≡ twohand_ok l c }
 {
-    let code = c.code;
-    let output = c.output;
-    (is_counting(code) | (code == STOP) | (code == ERROR) | (code == RESET))
-        & twohand_diagnosis(l, code, c.diagnosis)
-        & pair_time_ok(l.first, code, c.first)
-        & pair_time_ok(l.second, code, c.second)
-        & entry_ok(l.between, code, c.entry)
-        & (output == 0)
+    twohand_code(c.code)
+        & twohand_diagnosis(l, c.code, c.diagnosis)
+        & pair_time_ok(l.first, c.code, c.first)
+        & pair_time_ok(l.second, c.code, c.second)
+        & entry_ok(l.between, c.code, c.entry)
+        & (c.output == 0)
 }
 
 #[tactic(auto, unfolding(crate::specs::Formed::formed))]
-fn formed(family: Family, p: &[u8], c: BlockState) -> bool
+fn formed(family: Option<Family>, p: &[u8], c: BlockState) -> bool
     ensures { result ≡ formed family p.now c }
 {
     match family {
-        Family::Decouple => decouple_ok(c),
-        Family::Twohand => twohand_ok(kind::limits_of(p), c),
-        Family::Arithmetic => arithmetic_ok(kind::output_type(p), c),
-        Family::Unknown => false,
+        Some(Family::Decouple) => decouple_ok(c),
+        Some(Family::Twohand) => twohand_ok(kind::limits_of(p), c),
+        Some(Family::Arithmetic) => arithmetic_ok(kind::output_type(p), c),
+        None => false,
     }
 }
 

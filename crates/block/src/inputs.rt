@@ -9,17 +9,12 @@ pub fn bit_below(word: u32, bits: u32) -> u32
     word % 2 + 2 * (bits % 2147483648)
 }
 
-pub fn wide(x: u8) -> u32
-    ensures { result ≡ x }
-{
-    x as u32
-}
-
 // TWOHAND's effective mask, from the bits of its four raw inputs.
+#[tactic(auto, unfolding(crate::specs::Inputs::effective_mask), using(crate::proofs::Masks::masked))]
 pub fn effective(p: &[u8], raw: u32) -> u32
     ensures { result ≡ effective_mask p.now raw }
 {
-    let active = wide(kind::active_mask(p));
-    let opened = wide(kind::open_mask(p));
+    let active = u32::from(kind::active_mask(p));
+    let opened = u32::from(kind::open_mask(p));
     (raw % 16 ^ opened % 16) & (active % 16)
 }

@@ -1,5 +1,5 @@
 // A block's state and its bytes.
-ghost use Rattle.std.specs.Prelude.{◌≡◌};
+ghost use Rattle.std.specs.Prelude.{◌≡◌, ◌≤◌, length};
 ghost use Rattle.std.proofs.lemmas.List.Edits.{sets};
 ghost use Rattle.block.specs.State.{decode, encode, plain, in_error, running, fresh_bytes, is_error};
 ghost use Rattle.block.specs.State.{code_of, diagnosis_of, enters_code};
@@ -24,12 +24,8 @@ pub fn in_error(diagnosis: u16) -> BlockState
     ensures { result ≡ in_error diagnosis }
 {
     BlockState {
-        code: ERROR,
         diagnosis,
-        first: 0,
-        second: 0,
-        entry: 0,
-        output: 0,
+        ..plain(ERROR)
     }
 }
 
@@ -37,38 +33,17 @@ pub fn running(output: u32) -> BlockState
     ensures { result ≡ running output }
 {
     BlockState {
-        code: RUN,
-        diagnosis: 0,
-        first: 0,
-        second: 0,
-        entry: 0,
         output,
+        ..plain(RUN)
     }
 }
 
-// A block's state from fewer bytes than it has, or from any number of them.
+// A block's state from all of its bytes.
 #[tactic(auto, unfolding(crate::specs::State::decode))]
-fn decoded_any(s: &[u8]) -> BlockState
+fn decoded_whole(s: &[u8]) -> BlockState
+    requires { 16 ≤ length s.now }
     ensures { result ≡ decode s.now }
 {
-    BlockState {
-        code: wire::byte(s, 0),
-        diagnosis: wire::read16(s, 2),
-        first: wire::read16(s, 4),
-        second: wire::read16(s, 6),
-        entry: wire::read16(s, 8),
-        output: wire::read32(s, 12),
-    }
-}
-
-// A block's state from its bytes. Where they are all there, they are read at once.
-#[tactic(auto, unfolding(crate::specs::State::decode))]
-pub fn decoded(s: &[u8]) -> BlockState
-    ensures { result ≡ decode s.now }
-{
-    if s.len() < STATE_SIZE {
-        return decoded_any(s);
-    }
     BlockState {
         code: s[0],
         diagnosis: wire::word16(s[2], s[3]),
@@ -79,28 +54,31 @@ pub fn decoded(s: &[u8]) -> BlockState
     }
 }
 
+// A block's state from its bytes. Those that are not there are 0.
+#[tactic(auto, using(crate::proofs::Padded::padded))]
+pub fn decoded(s: &[u8]) -> BlockState
+    ensures { result ≡ decode s.now }
+{
+    if STATE_SIZE <= s.len() {
+        return decoded_whole(s);
+    }
+    let mut whole = [0; STATE_SIZE];
+    wire::put(&mut whole, 0, s);
+    decoded_whole(&whole)
+}
+
 // The bytes of a block's state.
 #[tactic(auto, unfolding(crate::specs::State::encode))]
 fn encoded(c: BlockState) -> [u8; STATE_SIZE]
     ensures { result ≡ encode c }
 {
+    let [d0, d1] = c.diagnosis.to_le_bytes();
+    let [a0, a1] = c.first.to_le_bytes();
+    let [b0, b1] = c.second.to_le_bytes();
+    let [e0, e1] = c.entry.to_le_bytes();
+    let [o0, o1, o2, o3] = c.output.to_le_bytes();
     [
-        c.code,
-        0,
-        (c.diagnosis % 256) as u8,
-        (c.diagnosis / 256 % 256) as u8,
-        (c.first % 256) as u8,
-        (c.first / 256 % 256) as u8,
-        (c.second % 256) as u8,
-        (c.second / 256 % 256) as u8,
-        (c.entry % 256) as u8,
-        (c.entry / 256 % 256) as u8,
-        0,
-        0,
-        (c.output % 256) as u8,
-        (c.output / 256 % 256) as u8,
-        (c.output / 65536 % 256) as u8,
-        (c.output / 16777216 % 256) as u8,
+        c.code, 0, d0, d1, a0, a1, b0, b1, e0, e1, 0, 0, o0, o1, o2, o3,
     ]
 }
 
@@ -152,5 +130,5 @@ pub fn is_error(s: &[u8]) -> bool
 pub fn entered(old: u8, new: u8) -> bool
     ensures { result ≡ enters_code old new }
 {
-    (new == ERROR) & !(old == ERROR)
+    (new == ERROR) & (old != ERROR)
 }

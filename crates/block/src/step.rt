@@ -4,24 +4,21 @@ ghost use Rattle.std.proofs.lemmas.List.Edits.{sets};
 ghost use Rattle.block.specs.State.{enters_from};
 ghost use Rattle.block.specs.Step.{acknowledged, asks_inputs, rest_bytes, decouple_bytes};
 
-use crate::state::{code_of, diagnosis_of, in_error, is_error, keep, plain, running, stop};
-use crate::{BlockState, ERROR, PHASE_RUN, PHASE_STOP, RESET};
+use crate::state::{code_of, diagnosis_of, in_error, is_error, keep, plain, running};
+use crate::{BlockState, ERROR, PHASE_RUN, PHASE_STOP, RESET, STOP};
 
 // A block in ERROR with diagnosis d, ErrAck true.
 pub fn acknowledged(fault: bool, d: u16) -> BlockState
     ensures { result ≡ acknowledged fault d }
 {
-    if fault {
-        return in_error(d);
-    }
-    plain(RESET)
+    if fault { in_error(d) } else { plain(RESET) }
 }
 
 // Whether a block's step depends on what it reads.
 pub fn asks(phase: u8, ack: bool, s: &[u8]) -> bool
     ensures { result ≡ asks_inputs phase ack s.now }
 {
-    (phase == PHASE_RUN) | (!(phase == PHASE_STOP) & is_error(s) & ack)
+    (phase == PHASE_RUN) | ((phase != PHASE_STOP) & is_error(s) & ack)
 }
 
 // The step of a block that does not ask, in place.
@@ -29,20 +26,12 @@ pub fn asks(phase: u8, ack: bool, s: &[u8]) -> bool
 pub fn rest(phase: u8, ack: bool, s: &mut [u8])
     ensures { s.new ≡ sets s.old 0 (rest_bytes phase ack s.old) }
 {
-    if phase == PHASE_STOP {
-        stop(s);
-        return;
+    match code_of(s) {
+        _ if phase == PHASE_STOP => keep(s, plain(STOP)),
+        ERROR => keep(s, in_error(diagnosis_of(s))),
+        RESET if ack => keep(s, plain(RESET)),
+        _ => keep(s, plain(STOP)),
     }
-    let code = code_of(s);
-    if code == ERROR {
-        keep(s, in_error(diagnosis_of(s)));
-        return;
-    }
-    if (code == RESET) & ack {
-        keep(s, plain(RESET));
-        return;
-    }
-    stop(s);
 }
 
 // The step of a DECOUPLE that asks, in place; whether it enters ERROR, which it never does.
@@ -52,8 +41,8 @@ pub fn decouple_step(phase: u8, x: u32, s: &mut [u8]) -> bool
 {
     if phase == PHASE_RUN {
         keep(s, running(x % 256));
-        return false;
+    } else {
+        keep(s, plain(RESET));
     }
-    keep(s, plain(RESET));
     false
 }

@@ -1,29 +1,22 @@
 // TWOHAND: one cycle in phase RUN, and whether its fault is present. x is the effective mask.
-ghost use Rattle.std.specs.Prelude.{◌≡◌, true, ◌≤◌};
+ghost use Rattle.std.specs.Prelude.{◌≡◌, true};
 ghost use Rattle.std.proofs.lemmas.List.Edits.{sets};
-ghost use Rattle.block.specs.State.{only_if, is_waiting, decode, encode, enters_from};
+ghost use Rattle.block.specs.State.{is_waiting, decode, encode, enters_from};
 ghost use Rattle.block.specs.Twohand.{differs, hands_of, pair_time, time_since, times_of, changed_over, next_code};
 ghost use Rattle.block.specs.Twohand.{error_bits, moved, judged, twohand_run, twohand_fault};
 ghost use Rattle.block.specs.Asks.{Even};
 ghost use Rattle.block.specs.Step.{twohand_bytes};
 
-use crate::inputs::wide;
 use crate::state::{code_of, decoded, diagnosis_of, entered, in_error, is_error, keep, plain};
 use crate::step::acknowledged;
 use crate::{BUTTON1, BUTTON2, BlockState, Hands, PHASE_RUN, RELEASE, RUN, SAFE, Times};
 use kind::Limits;
 
-fn only_if(t: bool, v: u16) -> u16
-    ensures { (result ≡ only_if t v) × (result ≤ v) }
-{
-    if t { v } else { 0 }
-}
-
 // Whether the two values of a pair differ.
 fn differs(active: u32, pair: u32) -> bool
     ensures { result ≡ differs active pair }
 {
-    (active == 3) & !(pair % 2 == pair / 2)
+    (active == 3) & (pair % 2 != pair / 2)
 }
 
 fn hands_of(active: u32, x: u32) -> Hands
@@ -41,19 +34,19 @@ fn hands_of(active: u32, x: u32) -> Hands
 fn pair_time(d: u16, differ: bool, stored: u16, ms: u16) -> u32
     ensures { result ≡ pair_time d differ stored ms }
 {
-    if (0 < d) & differ {
-        if stored == 0 {
-            return 1;
-        }
-        return (stored as u32) + (ms as u32);
+    if (d == 0) | !differ {
+        0
+    } else if stored == 0 {
+        1
+    } else {
+        (stored as u32) + (ms as u32)
     }
-    0
 }
 
-fn is_waiting(code: u8) -> bool
+pub fn is_waiting(code: u8) -> bool
     ensures { result ≡ is_waiting code }
 {
-    (code == BUTTON1) | (code == BUTTON2)
+    matches!(code, BUTTON1 | BUTTON2)
 }
 
 // The time since 11 or 12 was entered, with this cycle's.
@@ -61,10 +54,11 @@ fn is_waiting(code: u8) -> bool
 fn time_since(t: u16, code: u8, entry: u16, ms: u16) -> u32
     ensures { result ≡ time_since t code entry ms }
 {
-    if ((code == BUTTON1) | (code == BUTTON2)) & (0 < t) {
-        return (entry as u32) + (ms as u32);
+    if is_waiting(code) & (0 < t) {
+        (entry as u32) + (ms as u32)
+    } else {
+        0
     }
-    0
 }
 
 fn times_of(l: Limits, active: u32, ms: u16, x: u32, old: BlockState) -> Times
@@ -87,33 +81,18 @@ fn changed_over(code: u8, h: Hands) -> bool
 fn next_code(code: u8, h: Hands) -> u8
     ensures { result ≡ next_code code h }
 {
-    let full1 = h.full1;
-    let full2 = h.full2;
-    if code == SAFE {
-        if full1 {
-            return BUTTON1;
-        }
-        if full2 {
-            return BUTTON2;
-        }
-        return SAFE;
+    let both = h.full1 & h.full2;
+    match code {
+        SAFE if h.full1 => BUTTON1,
+        SAFE if h.full2 => BUTTON2,
+        SAFE => SAFE,
+        BUTTON1 | BUTTON2 if both => RUN,
+        BUTTON1 | BUTTON2 if h.full1 | h.full2 => code,
+        RUN if both => RUN,
+        RUN => RELEASE,
+        _ if h.clear => SAFE,
+        _ => RELEASE,
     }
-    if ((code == BUTTON1) | (code == BUTTON2)) & (full1 | full2) {
-        if full1 & full2 {
-            return RUN;
-        }
-        return code;
-    }
-    if code == RUN {
-        if full1 & full2 {
-            return RUN;
-        }
-        return RELEASE;
-    }
-    if h.clear {
-        return SAFE;
-    }
-    RELEASE
 }
 
 // All errors that apply.
@@ -121,10 +100,10 @@ fn next_code(code: u8, h: Hands) -> u8
 fn error_bits(l: Limits, t: Times, code: u8, h: Hands) -> u16
     ensures { result ≡ error_bits l t code h }
 {
-    only_if((l.first as u32) + 1 < t.first, 1)
-        + only_if((l.second as u32) + 1 < t.second, 2)
-        + only_if((l.between as u32) < t.since, 4)
-        + only_if(changed_over(code, h), 64)
+    u16::from((l.first as u32) + 1 < t.first)
+        + 2 * u16::from((l.second as u32) + 1 < t.second)
+        + 4 * u16::from((l.between as u32) < t.since)
+        + 64 * u16::from(changed_over(code, h))
 }
 
 // The next state where there is no error.
@@ -132,23 +111,15 @@ fn error_bits(l: Limits, t: Times, code: u8, h: Hands) -> u16
 fn moved(code: u8, next: u8, t: Times) -> BlockState
     ensures { result ≡ moved code next t }
 {
-    if next == code {
-        return BlockState {
-            code: next,
-            diagnosis: 0,
-            first: (t.first % 65536) as u16,
-            second: (t.second % 65536) as u16,
-            entry: (t.since % 65536) as u16,
-            output: 0,
-        };
-    }
     BlockState {
-        code: next,
-        diagnosis: 0,
         first: (t.first % 65536) as u16,
         second: (t.second % 65536) as u16,
-        entry: 0,
-        output: 0,
+        entry: if next == code {
+            (t.since % 65536) as u16
+        } else {
+            0
+        },
+        ..plain(next)
     }
 }
 
@@ -159,9 +130,10 @@ fn judged(l: Limits, t: Times, code: u8, h: Hands) -> BlockState
 {
     let d = error_bits(l, t, code, h);
     if d == 0 {
-        return moved(code, next_code(code, h), t);
+        moved(code, next_code(code, h), t)
+    } else {
+        in_error(d)
     }
-    in_error(d)
 }
 
 // TWOHAND in phase RUN.
@@ -169,7 +141,7 @@ fn judged(l: Limits, t: Times, code: u8, h: Hands) -> BlockState
 fn twohand_run(p: &[u8], ms: u16, x: u32, old: BlockState) -> BlockState
     ensures { result ≡ twohand_run p.now ms x old }
 {
-    let active = wide(kind::active_mask(p));
+    let active = u32::from(kind::active_mask(p));
     let l = kind::limits_of(p);
     judged(
         l,
@@ -184,10 +156,10 @@ fn twohand_run(p: &[u8], ms: u16, x: u32, old: BlockState) -> BlockState
 fn twohand_fault(p: &[u8], d: u16, x: u32) -> bool
     ensures { result ≡ twohand_fault p.now d x }
 {
-    let active = wide(kind::active_mask(p));
+    let active = u32::from(kind::active_mask(p));
     ((d % 2 == 1) & differs(active % 4, x % 4))
         | ((d / 2 % 2 == 1) & differs(active / 4, x / 4))
-        | (((d / 4 % 2 == 1) | (d / 64 % 2 == 1)) & !(x == 0))
+        | (((d / 4 % 2 == 1) | (d / 64 % 2 == 1)) & (x != 0))
 }
 
 // Whether no pair differs: bit 0 of what is tested is for the first pair, and bit 2 for the second.
@@ -206,7 +178,7 @@ fn run_step(p: &[u8], ms: u16, x: u32, s: &mut [u8]) -> bool
     ensures enters { result ≡ enters_from s.old
         (encode (twohand_run p.now ms x (decode s.old))) }
 {
-    let active = wide(kind::active_mask(p));
+    let active = u32::from(kind::active_mask(p));
     let code = code_of(s);
     if !is_waiting(code) & none_differs(active, x) {
         keep(s, plain(next_code(code, hands_of(active, x))));

@@ -30,13 +30,11 @@ unfoldable pub body_in : List ℕ → ℕ → List ℕ
 body_in F e = cond (contents_ok body_count F && ltb e body_count) (body_of F e) []
 
 -- 01, "The case file": the project is G, I, B and O
+abbrev pub project_from : List ℕ → List ℕ → List ℕ → List ℕ → Project
+project_from G I B O = record { groups = G; inputs = I; blocks = B; outputs = O }
+
 unfoldable pub project_of : List ℕ → Project
-project_of F = record {
-  groups = body_in F body_g;
-  inputs = body_in F body_i;
-  blocks = body_in F body_b;
-  outputs = body_in F body_o;
-}
+project_of F = project_from (body_in F body_g) (body_in F body_i) (body_in F body_b) (body_in F body_o)
 
 -- 01, "The case file", T: cycle records of equal size; how many, and record c
 unfoldable pub record_count : List ℕ → ℕ

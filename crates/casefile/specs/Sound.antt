@@ -1,6 +1,6 @@
 -- What functions inside a cycle, and those for a trace (DECISIONS 29), ask of a project. Whoever calls `cycle` need not
 -- believe it: the checks of a file give these facts of its bodies G, B and O (01, "Turned down", 3 to 8).
-use Rattle.std.specs.Prelude.{ℕ, ◌*◌, ◌<◌, ◌≤◌, ◌≡◌, true, List, length}
+use Rattle.std.specs.Prelude.{ℕ, ◌*◌, ◌<◌, ◌≤◌, ◌≡◌, true, List, length, Some}
 use Rattle.kind.specs.Parameters.{parameters_ok}
 use Rattle.project.specs.declared.Source.TheVariants.{External, Output}
 use Rattle.project.specs.Project.{device, group_count, block_size, block_count, kind_of, group_of, order_of}
@@ -19,8 +19,8 @@ pub record Sound (G B : List ℕ) (n : ℕ) : Type 0 where
   pub parameters : (b : ℕ) → b < block_count B → ParametersKept G B b
   pub order_below : (b : ℕ) → b < block_count B → order_of B b < block_count B
   pub order_other : (a b : ℕ) → a < b → b < block_count B → order_of B a ≡ order_of B b → ⊥
-  pub external : (b p i : ℕ) → b < block_count B → link_of B b p ≡ External i → i < n
-  pub output : (b p a q : ℕ) → b < block_count B → link_of B b p ≡ Output a q → a < block_count B
+  pub external : (b p i : ℕ) → b < block_count B → link_of B b p ≡ Some (External i) → i < n
+  pub output : (b p a q : ℕ) → b < block_count B → link_of B b p ≡ Some (Output a q) → a < block_count B
 
 -- O, beside B
 pub record Shown (B O : List ℕ) : Type 0 where

@@ -16,9 +16,11 @@ mod records;
 mod table;
 
 use project::Counts;
-pub use reader::{Starts, body, starts_of};
+pub use reader::{Bodies, Starts, body, starts_of};
+pub use table::Rule;
 
-// The bodies, by their places in the table of contents.
+// The bodies, by their places in the table of contents. (Numbers and not an enum: `body` promises an answer for every
+// number of a body, also past the five.)
 pub const BODY_G: u8 = 0;
 
 pub const BODY_I: u8 = 1;
@@ -32,53 +34,32 @@ pub const BODY_T: u8 = 4;
 // How many there are.
 const BODIES: u8 = 5;
 
-// What a check answers: accepted, or turned down with a number.
-#[derive(Clone, Copy)]
-pub enum Verdict {
-    Accepted,
-    Refused(u8),
-}
-
 // The device of the file's project, how many records each body has, and the size of a cycle record.
 pub fn counts_in(file: &[u8]) -> Counts
     ensures { result ≡ counts_in (project_of file.now) }
 {
-    let starts = starts_of(file);
-    project::counts_of(
-        body(file, starts, BODY_G),
-        body(file, starts, BODY_I),
-        body(file, starts, BODY_B),
-        body(file, starts, BODY_O),
-    )
+    Bodies::of(file).counts()
 }
 
-// Whether a file is a case file, and if not, the number of the first rule of the table that it breaks.
-pub fn check(file: &[u8]) -> Verdict
+// Whether a file is a case file, and if not, the first rule of the table that it breaks.
+pub fn check(file: &[u8]) -> Result<(), Rule>
     ensures { result ≡ verdict file.now }
 {
-    let starts = starts_of(file);
-    let groups = body(file, starts, BODY_G);
-    let inputs = body(file, starts, BODY_I);
-    let blocks = body(file, starts, BODY_B);
-    let outputs = body(file, starts, BODY_O);
-    let records = body(file, starts, BODY_T);
-    let mut k = 0;
-    while k < table::RULES {
-        let r = table::rule_at(k);
-        if !table::keeps(file, groups, inputs, blocks, outputs, records, r) {
-            return Verdict::Refused(table::refusal_of(r));
+    let bodies = Bodies::of(file);
+    for r in table::TABLE {
+        if !table::keeps(file, bodies, r) {
+            return Err(r);
         }
-        k += 1;
     }
-    Verdict::Accepted
+    Ok(())
 }
 
 // The paper's number of an answer, 0 for accepted.
-pub fn number_of(v: Verdict) -> u8
-    ensures { result ≡ number_of v }
+pub fn number_of(checked: Result<(), Rule>) -> u8
+    ensures { result ≡ number_of checked }
 {
-    match v {
-        Verdict::Accepted => 0,
-        Verdict::Refused(n) => n,
+    match checked {
+        Ok(()) => 0,
+        Err(r) => r.number(),
     }
 }

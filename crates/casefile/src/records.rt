@@ -1,7 +1,7 @@
 // The rules of the bodies' lengths, and of a record by itself or beside what it names (01, "Turned down", 3, 4, 5, 8
-// and 9). A search over the records of a body answers the first that is wrong, or how many there are.
+// and 9).
 ghost use Rattle.std.specs.Prelude.{◌≡◌, ◌≤◌};
-ghost use Rattle.wire.specs.Places.{first_bad};
+ghost use Rattle.wire.specs.Places.{all};
 ghost use Rattle.project.specs.Project.{group_count, input_count, block_count, output_count};
 ghost use Rattle.casefile.specs.Rules.{groups_size_ok, group_record_ok, inputs_size_ok, input_rule};
 ghost use Rattle.casefile.specs.Rules.{input_record_ok, blocks_size_ok, block_rule, block_record_ok, outputs_size_ok};
@@ -15,20 +15,14 @@ pub fn groups_size_ok(groups: &[u8]) -> bool
     (2 <= groups.len()) & (groups.len() <= 9) & kind::is_device(project::device_in(groups))
 }
 
-#[tactic(auto, unfolding(crate::specs::Rules::group_record_ok))]
-pub fn first_bad_group(groups: &[u8]) -> usize
-    ensures { result ≡ first_bad (group_record_ok groups.now) (group_count groups.now) }
+pub fn groups_ok(groups: &[u8]) -> bool
+    ensures { result ≡ all (group_record_ok groups.now) (group_count groups.now) }
 {
     let device = project::device_in(groups);
-    let n = project::group_count(groups);
-    let mut k = 0;
-    while k < n {
-        if !kind::group_rule(device, project::run_linked(groups, k)) {
-            return k;
-        }
-        k += 1;
-    }
-    k
+    (0..project::group_count(groups)).all(|k| kind::group_rule(
+        device,
+        project::run_linked(groups, k),
+    ))
 }
 
 // 4: at most 128 whole records, and a record's fields.
@@ -46,21 +40,13 @@ fn input_rule(groups: usize, r: &[u8]) -> bool
     ((project::input_group(r) as usize) < groups) & (project::input_type(r) <= kind::BOOL)
 }
 
-#[tactic(auto, unfolding(crate::specs::Rules::input_record_ok, project::specs::Project::input_count))]
-pub fn first_bad_input(groups: &[u8], inputs: &[u8]) -> usize
-    ensures { result ≡ first_bad (input_record_ok groups.now inputs.now)
-        (input_count inputs.now) }
+pub fn inputs_ok(groups: &[u8], inputs: &[u8]) -> bool
+    ensures { result ≡ all (input_record_ok groups.now inputs.now) (input_count inputs.now) }
 {
     let h = project::group_count(groups);
-    let n = inputs.len() / project::INPUT_SIZE;
-    let mut k = 0;
-    while k < n {
-        if !input_rule(h, project::input_record(inputs, k)) {
-            return k;
-        }
-        k += 1;
-    }
-    k
+    inputs
+        .chunks_exact(project::INPUT_SIZE)
+        .all(|r| input_rule(h, r))
 }
 
 // 5: 1 to 64 whole records, and a record's fields, links and execution number apart.
@@ -81,22 +67,14 @@ fn block_rule(device: u8, groups: usize, r: &[u8]) -> bool
         & kind::parameters_ok(device, project::kind_of(r), project::parameters_of(r))
 }
 
-#[tactic(auto, unfolding(crate::specs::Rules::block_record_ok, project::specs::Project::block_count))]
-pub fn first_bad_block(groups: &[u8], blocks: &[u8]) -> usize
-    ensures { result ≡ first_bad (block_record_ok groups.now blocks.now)
-        (block_count blocks.now) }
+pub fn blocks_ok(groups: &[u8], blocks: &[u8]) -> bool
+    ensures { result ≡ all (block_record_ok groups.now blocks.now) (block_count blocks.now) }
 {
     let device = project::device_in(groups);
     let h = project::group_count(groups);
-    let n = blocks.len() / project::BLOCK_SIZE;
-    let mut k = 0;
-    while k < n {
-        if !block_rule(device, h, project::block_record(blocks, k)) {
-            return k;
-        }
-        k += 1;
-    }
-    k
+    blocks
+        .chunks_exact(project::BLOCK_SIZE)
+        .all(|r| block_rule(device, h, r))
 }
 
 // 8: at most 64 whole records, and a record's fields; `other` is the record of the block that it names.
@@ -117,25 +95,15 @@ fn output_rule(groups: usize, blocks: usize, r: &[u8], other: &[u8]) -> bool
         & (project::group_of(other) == project::output_group(r))
 }
 
-#[tactic(auto, unfolding(project::specs::Project::block_count, project::specs::Project::output_count))]
-pub fn first_bad_output(groups: &[u8], blocks: &[u8], outputs: &[u8]) -> usize
-    ensures { result
-        ≡ first_bad (output_record_ok groups.now blocks.now outputs.now)
-        (output_count outputs.now) }
+pub fn outputs_ok(groups: &[u8], blocks: &[u8], outputs: &[u8]) -> bool
+    ensures { result ≡ all (output_record_ok groups.now blocks.now outputs.now) (output_count outputs.now) }
 {
     let h = project::group_count(groups);
     let m = blocks.len() / project::BLOCK_SIZE;
-    let n = outputs.len() / project::OUTPUT_SIZE;
-    let mut k = 0;
-    while k < n {
-        let r = project::output_record(outputs, k);
+    outputs.chunks_exact(project::OUTPUT_SIZE).all(|r| {
         let other = project::block_record(blocks, project::output_block(r) as usize);
-        if !output_rule(h, m, r, other) {
-            return k;
-        }
-        k += 1;
-    }
-    k
+        output_rule(h, m, r, other)
+    })
 }
 
 // 9: T is a whole number of records.

@@ -1,17 +1,19 @@
 // The table of refusals (01, "Turned down: numbers and order"): the rules in their order, the number of each, and its
 // test over the file and its bodies.
-ghost use Rattle.std.specs.Prelude.{◌≡◌, ◌<◌};
+ghost use Rattle.std.specs.Prelude.{◌≡◌};
 ghost use Rattle.casefile.specs.Rules.{size_ok};
-ghost use Rattle.casefile.specs.Refusal.{rule_count, rule_at, refusal_of, kept_by};
+ghost use Rattle.casefile.specs.Refusal.{refusal_of, kept_by};
 ghost use Rattle.casefile.specs.Asks.{Reached};
 
+use crate::reader::Bodies;
 use crate::{channels, links, orders, records};
 
 // The size of the table of contents.
 const CONTENTS_SIZE: usize = 40;
 
-// The rules that a file must keep, in any order: `TABLE` has theirs.
-#[derive(Clone, Copy)]
+// The rules that a file must keep, in any order: `TABLE` has theirs. A rule stands for the file's error that it is not
+// kept.
+#[derive(Clone, Copy, Debug, PartialEq, Eq)]
 pub enum Rule {
     Size,
     Contents,
@@ -29,9 +31,9 @@ pub enum Rule {
     Trace,
 }
 
-pub const RULES: usize = 14;
+const RULES: usize = 14;
 
-const TABLE: [Rule; RULES] = [
+pub const TABLE: [Rule; RULES] = [
     Rule::Size,
     Rule::Contents,
     Rule::GroupsSize,
@@ -48,32 +50,27 @@ const TABLE: [Rule; RULES] = [
     Rule::Trace,
 ];
 
-#[tactic(auto, unfolding(crate::specs::Refusal::rule_at))]
-pub fn rule_at(k: usize) -> Rule
-    requires { k < rule_count }
-    ensures { result ≡ rule_at k }
-{
-    TABLE[k]
-}
-
-pub fn refusal_of(r: Rule) -> u8
-    ensures { result ≡ refusal_of r }
-{
-    match r {
-        Rule::Size => 1,
-        Rule::Contents => 2,
-        Rule::GroupsSize => 3,
-        Rule::Groups => 3,
-        Rule::InputsSize => 4,
-        Rule::Inputs => 4,
-        Rule::BlocksSize => 5,
-        Rule::Blocks => 5,
-        Rule::Orders => 6,
-        Rule::Links => 7,
-        Rule::OutputsSize => 8,
-        Rule::Outputs => 8,
-        Rule::Channels => 8,
-        Rule::Trace => 9,
+impl Rule {
+    // The paper's number of the refusal.
+    pub fn number(self) -> u8
+        ensures { result ≡ refusal_of self }
+    {
+        match self {
+            Rule::Size => 1,
+            Rule::Contents => 2,
+            Rule::GroupsSize => 3,
+            Rule::Groups => 3,
+            Rule::InputsSize => 4,
+            Rule::Inputs => 4,
+            Rule::BlocksSize => 5,
+            Rule::Blocks => 5,
+            Rule::Orders => 6,
+            Rule::Links => 7,
+            Rule::OutputsSize => 8,
+            Rule::Outputs => 8,
+            Rule::Channels => 8,
+            Rule::Trace => 9,
+        }
     }
 }
 
@@ -86,25 +83,32 @@ fn size_ok(file: &[u8]) -> bool
 }
 
 // The test of a rule, of the file and its bodies G, I, B, O and T.
-pub fn keeps(file: &[u8], g: &[u8], i: &[u8], b: &[u8], o: &[u8], t: &[u8], r: Rule) -> bool
-    requires { Reached g.now i.now b.now r }
-    ensures { result ≡ kept_by file.now g.now i.now
-        b.now o.now t.now r }
+pub fn keeps(file: &[u8], bodies: Bodies, r: Rule) -> bool
+    requires { Reached bodies.groups.now bodies.inputs.now bodies.blocks.now r }
+    ensures { result ≡ kept_by file.now bodies.entry.groups.now bodies.entry.inputs.now
+        bodies.entry.blocks.now bodies.entry.outputs.now bodies.entry.trace.now r }
 {
+    let Bodies {
+        groups,
+        inputs,
+        blocks,
+        outputs,
+        trace,
+    } = bodies;
     match r {
         Rule::Size => size_ok(file),
         Rule::Contents => contents::ok(file, super::BODIES),
-        Rule::GroupsSize => records::groups_size_ok(g),
-        Rule::Groups => records::first_bad_group(g) == project::group_count(g),
-        Rule::InputsSize => records::inputs_size_ok(i),
-        Rule::Inputs => records::first_bad_input(g, i) == i.len() / project::INPUT_SIZE,
-        Rule::BlocksSize => records::blocks_size_ok(b),
-        Rule::Blocks => records::first_bad_block(g, b) == b.len() / project::BLOCK_SIZE,
-        Rule::Orders => orders::first_bad_order(b) == b.len() / project::BLOCK_SIZE,
-        Rule::Links => links::first_bad_links(i, b) == b.len() / project::BLOCK_SIZE,
-        Rule::OutputsSize => records::outputs_size_ok(o),
-        Rule::Outputs => records::first_bad_output(g, b, o) == o.len() / project::OUTPUT_SIZE,
-        Rule::Channels => channels::first_unread(b, o) == b.len() / project::BLOCK_SIZE,
-        Rule::Trace => records::trace_ok(g, i, t),
+        Rule::GroupsSize => records::groups_size_ok(groups),
+        Rule::Groups => records::groups_ok(groups),
+        Rule::InputsSize => records::inputs_size_ok(inputs),
+        Rule::Inputs => records::inputs_ok(groups, inputs),
+        Rule::BlocksSize => records::blocks_size_ok(blocks),
+        Rule::Blocks => records::blocks_ok(groups, blocks),
+        Rule::Orders => orders::orders_ok(blocks),
+        Rule::Links => links::links_ok(inputs, blocks),
+        Rule::OutputsSize => records::outputs_size_ok(outputs),
+        Rule::Outputs => records::outputs_ok(groups, blocks, outputs),
+        Rule::Channels => channels::channels_ok(blocks, outputs),
+        Rule::Trace => records::trace_ok(groups, inputs, trace),
     }
 }

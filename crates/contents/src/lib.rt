@@ -2,9 +2,8 @@
 // n is 5). Every public function is total: a byte past the end reads as 0.
 #![tactic(auto)]
 
-ghost use Rattle.std.specs.Prelude.{◌≡◌, ◌+◌, ◌-◌, ◌<◌, ◌≤◌, length};
-ghost use Rattle.wire.specs.Words.{le32};
-ghost use Rattle.wire.specs.Places.{first_bad};
+ghost use Rattle.std.specs.Prelude.{◌≡◌};
+ghost use Rattle.wire.specs.Places.{all};
 ghost use Rattle.contents.specs.Contents.{body_start, body_size, follows_ok, contents_ok};
 
 const ENTRY_SIZE: usize = 8;
@@ -24,55 +23,29 @@ pub fn size(file: &[u8], e: u8) -> u32
     wire::read32(file, ENTRY_SIZE * (e as usize) + 4)
 }
 
-// The number in the four bytes from i on, which the file has.
-fn word(file: &[u8], i: usize) -> u32
-    requires { i + 4 ≤ length file.now }
-    ensures { result ≡ le32 file.now i }
-{
-    wire::word32(file[i], file[i + 1], file[i + 2], file[i + 3])
-}
-
-// Body e + 1 starts where body e ends. Where the file has both entries, one look at its size is enough.
+// Body e + 1 starts where body e ends.
+#[tactic(auto, unfolding(crate::specs::Contents::follows_ok, crate::specs::Contents::body_start))]
 fn follows(file: &[u8], e: u8) -> bool
-    requires { e < 255 }
     ensures { result ≡ follows_ok file.now e }
 {
-    let at = ENTRY_SIZE * (e as usize);
     let next = ENTRY_SIZE * (e as usize + 1);
-    if file.len() < next + 4 {
-        return (start(file, e + 1) as u64) == (start(file, e) as u64) + (size(file, e) as u64);
-    }
-    (word(file, next) as u64) == (word(file, at) as u64) + (word(file, at + 4) as u64)
+    (wire::read32(file, next) as u64) == (start(file, e) as u64) + (size(file, e) as u64)
 }
 
-// The first body, of those before the last, that the next does not follow, or the last.
-fn first_gap(file: &[u8], last: u8) -> u8
-    ensures { result ≡ first_bad (follows_ok file.now) last }
+// Whether each body before the last ends where the next starts.
+fn no_gap(file: &[u8], last: u8) -> bool
+    ensures { result ≡ all (follows_ok file.now) last }
 {
-    let mut e = 0;
-    while e < last {
-        if !follows(file, e) {
-            return e;
-        }
-        e += 1;
-    }
-    e
-}
-
-// The number of the last of n bodies.
-fn last_of(n: u8) -> u8
-    ensures { result ≡ n - 1 }
-{
-    if n == 0 { 0 } else { n - 1 }
+    (0..last).all(|e| follows(file, e))
 }
 
 // Whether the n bodies stand one after the other, from the table to the end of the file.
-#[tactic(auto, unfolding(crate::specs::Contents::contents_ok, wire::specs::Places::all))]
+#[tactic(auto, unfolding(crate::specs::Contents::contents_ok))]
 pub fn ok(file: &[u8], n: u8) -> bool
     ensures { result ≡ contents_ok n file.now }
 {
-    let last = last_of(n);
+    let last = n.saturating_sub(1);
     ((start(file, 0) as usize) == ENTRY_SIZE * (n as usize))
-        & (first_gap(file, last) == last)
+        & no_gap(file, last)
         & ((start(file, last) as usize) + (size(file, last) as usize) == file.len())
 }

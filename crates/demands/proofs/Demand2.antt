@@ -4,6 +4,7 @@
 use Rattle.wire.proofs.Usual.{◌≡◌, refl, sym, ap, ◌∙◌, Bool, true, cond, List, [], ◌++◌, append-nil, ℕ}
 use Rattle.wire.proofs.Usual.{zero, suc, ◌+◌, ◌-◌, ◌*◌, ◌≤◌, ◌<◌, ℕ_discrete, dec_lt, arith, length, take, drop}
 use Rattle.wire.proofs.Usual.{replicate, length-replicate}
+use Rattle.std.specs.Prelude.{Result, Ok, Err}
 use mathlib.Core.List.{append_assoc}
 use native.Mathlib.Nat.{not-suc-le-zero}
 use lib.ListN.{get_or-replicate, get_or-eq_default}
@@ -17,7 +18,7 @@ use Rattle.casefile.specs.Sound.{Sound}
 use Rattle.casefile.specs.Bodies.{project_of}
 use Rattle.casefile.proofs.Accepted.{accepted}
 use Rattle.block.specs.Finding.{finding_size}
-use Rattle.evaluator.specs.declared.Answer.TheVariants.{Findings, Refused}
+use Rattle.evaluator.specs.declared.Refusal.{Refusal}
 use Rattle.evaluator.specs.Net.{words, seen}
 use Rattle.evaluator.specs.State.{cell, state_formed}
 use Rattle.evaluator.specs.Groups.{phase}
@@ -25,7 +26,7 @@ use Rattle.wire.specs.Packed.{entries, hits, packed}
 use Rattle.evaluator.specs.Cycle.{net, ran, turned_from, wires, new_block, words_read, new_findings, enters}
 use Rattle.evaluator.specs.Cycle.{finding_for}
 use Rattle.evaluator.specs.Cycle.{finding, finding_count}
-use Rattle.evaluator.specs.Answer.{Lent, Left, refusal, leaves, cycle_of}
+use Rattle.evaluator.specs.Answer.{Lent, Left, call_verdict, leaves, cycle_of}
 use Rattle.evaluator.proofs.Agree.{unique}
 use Rattle.evaluator.proofs.Cycles.{new_stepped}
 use Rattle.evaluator.proofs.Checked.{new_formed}
@@ -120,18 +121,16 @@ module _ (w : ℕ) (hit : ℕ → Bool) (f : ℕ → List ℕ) (long : (b : ℕ)
 -- ---- an accepted call
 
 module _ (F R : List ℕ) (L : Lent) where
-  not_refused : (k : ℕ) → (cycle_of F R L).answer ≡ Findings k → refusal F R L ≡ 0
-  not_refused k e = go (ℕ_discrete (refusal F R L) 0)
+  not_refused : (k : ℕ) → (cycle_of F R L).answer ≡ Ok k → call_verdict F R L ≡ Ok tt
+  not_refused k e = go (call_verdict F R L) refl
     where
-      go : Dec (refusal F R L ≡ 0) → refusal F R L ≡ 0
-      go (yes z) = z
-      go (no n) =
-          let turned : Refused (refusal F R L) ≡ Findings k =
-          sym (ap (λ (l : Left). l.answer) (call_refused F R L (refusal F R L) refl n)) ∙ e
-          in
-          let never : ◌≡◌ {A = ℕ} 0 1 = cc in omega arith
+      go : (v : Result (Unit {0}) Refusal) → call_verdict F R L ≡ v → call_verdict F R L ≡ Ok tt
+      go (Ok u) z = z
+      go (Err r) z =
+          let turned : Err r ≡ Ok k = sym (ap (λ (l : Left). l.answer) (call_refused F R L r z)) ∙ e in
+          absurd (cc)
 
-  cycled : (k : ℕ) → (cycle_of F R L).answer ≡ Findings k → CycledBy F R L (project_of F) k
+  cycled : (k : ℕ) → (cycle_of F R L).answer ≡ Ok k → CycledBy F R L (project_of F) k
   unfolding finding_count new_findings finding finding_for words_read
   cycled k e = record {
     state = ap (λ (l : Left). l.lent.state) done;
@@ -151,7 +150,7 @@ module _ (F R : List ℕ) (L : Lent) where
         (finding_size * block_count B) (block_count B) i (rw counted at l);
     formed =
         ap (λ (l : Left). state_formed G B l.lent.state) done
-        ∙ new_formed G B R S sound (call_passed F R L zero_number).state;
+        ∙ new_formed G B R S sound (call_passed F R L accepts).state;
   }
     where
       G : List ℕ
@@ -163,20 +162,20 @@ module _ (F R : List ℕ) (L : Lent) where
       S : List ℕ
       S = L.state
 
-      zero_number : refusal F R L ≡ 0
-      zero_number = not_refused k e
+      accepts : call_verdict F R L ≡ Ok tt
+      accepts = not_refused k e
 
-      done : cycle_of F R L ≡ leaves 0 (project_of F) R L
-      done = call_done F R L zero_number
+      done : cycle_of F R L ≡ leaves (Ok tt) (project_of F) R L
+      done = call_done F R L accepts
 
       counted : k ≡ hits (block_count B) (enters G B R S)
       counted =
-          let same : Findings k ≡ Findings (hits (block_count B) (enters G B R S)) =
+          let same : Ok k ≡ Ok (hits (block_count B) (enters G B R S)) =
           sym e ∙ ap (λ (l : Left). l.answer) done
           in cc
 
       sound : Sound G B (input_count (project_of F).inputs)
-      sound = (call_taken F R L zero_number).sound
+      sound = (call_taken F R L accepts).sound
 
 pub demand2 : Demand2
 demand2 = record { cycles = cycled; fresh = λ F a. fresh_state_formed (project_of F) (taken F (accepted F a)).sound }

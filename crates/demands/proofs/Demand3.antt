@@ -1,12 +1,11 @@
 -- Demand 3: two accepted files whose projects are alike give the same runs. All that a cycle reads of a block but its
 -- execution number is the same in both, and the execution numbers matter along links alone (`agree`). Assumes nothing.
 use Rattle.wire.proofs.Usual.{◌≡◌, refl, sym, ap, ap₂, ◌∙◌, subst, Bool, not, ◌&&◌, List, [], ◌∷◌, ◌++◌, ℕ}
-use Rattle.wire.proofs.Usual.{zero, suc, ◌*◌, ◌<◌, eqb}
+use Rattle.wire.proofs.Usual.{◌*◌, ◌<◌, eqb}
 use mathlib.Core.Path.{fun_ext}
 use Rattle.wire.specs.Words.{bytes4}
 use Rattle.wire.specs.Records.{gather}
 use Rattle.wire.specs.Places.{all}
-use Rattle.wire.specs.Tables.{row, first}
 use Rattle.wire.proofs.Places.{all_same}
 use Rattle.wire.proofs.Records.{gather_same}
 use Rattle.project.specs.Project.{Project, group_count, block_count, group_of, order_of, link_of, output_count}
@@ -15,28 +14,29 @@ use Rattle.project.specs.Project.{output_port, device}
 use Rattle.casefile.specs.Sound.{Sound, Shown}
 use Rattle.project.specs.Alike.{Alike}
 use Rattle.project.proofs.Alike.{blocks_same, kind_same, group_same, parameters_same, link_same}
-use Rattle.casefile.specs.declared.Verdict.TheVariants.{Accepted}
+use Rattle.std.specs.Prelude.{cond, Result, Ok, Err}
 use Rattle.casefile.specs.Bodies.{project_of}
 use Rattle.casefile.specs.Refusal.{verdict}
-use Rattle.casefile.proofs.Refusals.{accepted_zero}
 use Rattle.block.specs.Formed.{well_formed}
 use Rattle.block.specs.State.{is_error, enters_from}
 use Rattle.block.specs.Shows.{shows}
 use Rattle.block.specs.Finding.{finding_size}
-use Rattle.evaluator.specs.declared.Answer.TheVariants.{Findings}
+use Rattle.evaluator.specs.declared.Refusal.{Refusal}
+use Rattle.evaluator.specs.declared.Refusal.TheVariants.{Sizes, State, Record}
 use Rattle.evaluator.specs.Net.{reads, seen}
 use Rattle.evaluator.specs.State.{cell, state_length, findings_length, head_formed, cell_formed, state_formed}
 use Rattle.evaluator.specs.Groups.{erred_in, has_error, group_from, new_group, phase_of, phase}
 use Rattle.wire.specs.Packed.{hits, packed}
 use Rattle.evaluator.specs.Cycle.{wires, turned_from, net, ran, new_block, words_read, new_head, new_state, output_word}
 use Rattle.evaluator.specs.Cycle.{new_outputs, enters, finding_for, finding, finding_count, new_findings}
-use Rattle.evaluator.specs.Answer.{Lent, Left, sizes_ok, record_ok, call_rows, refusal, leaves, cycle_of}
+use Rattle.evaluator.specs.Answer.{Lent, Left, sizes_ok, record_ok, call_tested, call_verdict, leaves}
+use Rattle.evaluator.specs.Answer.{cycle_of}
 use Rattle.evaluator.specs.Runs.{run}
 use Rattle.casefile.proofs.Accepted.{accepted}
 use Rattle.evaluator.proofs.Agree.{Same, agree, reads_same, ltb_iff}
 use Rattle.wire.proofs.Packing.{packed_same, hits_same}
 use Rattle.evaluator.proofs.Checking.{Taken, taken}
-use Rattle.evaluator.proofs.Calls.{refused_rows}
+use Rattle.evaluator.proofs.Calls.{verdict_tested}
 use Rattle.demands.specs.Demands.{Demand3}
 
 -- ---- blocks that are alike, beside the same groups, inputs and outputs
@@ -191,22 +191,26 @@ module _ (G I O : List ℕ) (P P' : Project) (alike : Alike P P') {n : ℕ}
 
   -- ---- a call
 
-  rows_same : (R : List ℕ) (L : Lent) → call_rows (record { groups = G; inputs = I; blocks = B; outputs = O }) R L
-      ≡ call_rows (record { groups = G; inputs = I; blocks = B'; outputs = O }) R L
-  rows_same R L = λ i. row 10 (sizes_same L i) ∷ row 11 (formed_same L.state i) ∷ row 12 (record_ok G I R) ∷ []
+  tested_same : (R : List ℕ) (L : Lent) →
+      call_tested (record { groups = G; inputs = I; blocks = B; outputs = O }) R L
+      ≡ call_tested (record { groups = G; inputs = I; blocks = B'; outputs = O }) R L
+  tested_same R L = λ i.
+      cond (sizes_same L i)
+      (cond (formed_same L.state i) (cond (record_ok G I R) (Ok tt) (Err Record)) (Err State))
+      (Err Sizes)
 
-  leaves_same : (R : List ℕ) (L : Lent) (m : ℕ) →
-      leaves m (record { groups = G; inputs = I; blocks = B; outputs = O }) R L
-      ≡ leaves m (record { groups = G; inputs = I; blocks = B'; outputs = O }) R L
-  leaves_same R L zero = λ i. record {
-    answer = Findings (count_same R L.state i);
+  leaves_same : (R : List ℕ) (L : Lent) (v : Result (Unit {0}) Refusal) →
+      leaves v (record { groups = G; inputs = I; blocks = B; outputs = O }) R L
+      ≡ leaves v (record { groups = G; inputs = I; blocks = B'; outputs = O }) R L
+  leaves_same R L (Ok u) = λ i. record {
+    answer = Ok (count_same R L.state i);
     lent = record {
       state = state_same R L.state i;
       outputs = outputs_same R L.state i;
       findings = findings_same R L.state i;
     };
   }
-  leaves_same R L (suc m) = refl
+  leaves_same R L (Err r) = refl
 
 -- ---- two files
 
@@ -214,7 +218,7 @@ module _ (G I O : List ℕ) (P P' : Project) (alike : Alike P P') {n : ℕ}
 abbrev with_blocks : Project → List ℕ → Project
 with_blocks P B = record { groups = P.groups; inputs = P.inputs; blocks = B; outputs = P.outputs }
 
-module _ (F F' : List ℕ) (ok : verdict F ≡ Accepted) (ok' : verdict F' ≡ Accepted)
+module _ (F F' : List ℕ) (ok : verdict F ≡ Ok tt) (ok' : verdict F' ≡ Ok tt)
     (alike : Alike (project_of F) (project_of F')) where
   abbrev P : Project
   P = project_of F
@@ -237,18 +241,18 @@ module _ (F F' : List ℕ) (ok : verdict F ≡ Accepted) (ok' : verdict F' ≡ A
   t' : Taken (with_blocks P P'.blocks)
   t' = subst Taken (sym other) (taken F' (accepted F' ok'))
 
-  refusal_same : (R : List ℕ) (L : Lent) → refusal F R L ≡ refusal F' R L
-  refusal_same R L =
-      sym (refused_rows F R L (accepted_zero F ok) P refl)
-      ∙ ap first (rows_same P.groups P.inputs P.outputs P P' alike t.sound t'.sound t.shown R L)
-      ∙ refused_rows F' R L (accepted_zero F' ok') (with_blocks P P'.blocks) other
+  verdict_same : (R : List ℕ) (L : Lent) → call_verdict F R L ≡ call_verdict F' R L
+  verdict_same R L =
+      sym (verdict_tested F R L ok P refl)
+      ∙ tested_same P.groups P.inputs P.outputs P P' alike t.sound t'.sound t.shown R L
+      ∙ verdict_tested F' R L ok' (with_blocks P P'.blocks) other
 
   cycle_same : (R : List ℕ) (L : Lent) → cycle_of F R L ≡ cycle_of F' R L
   unfolding cycle_of
   cycle_same R L =
       leaves_same P.groups P.inputs P.outputs P P' alike t.sound t'.sound t.shown R L
-      (refusal F R L)
-      ∙ ap₂ (λ (n : ℕ) (p : Project). leaves n p R L) (refusal_same R L) other
+      (call_verdict F R L)
+      ∙ ap₂ (λ (v : Result (Unit {0}) Refusal) (p : Project). leaves v p R L) (verdict_same R L) other
 
   run_same : (Rs : List (List ℕ)) (L : Lent) → run F Rs L ≡ run F' Rs L
   unfolding run

@@ -6,7 +6,6 @@ use Rattle.wire.proofs.Usual.{ℕ, ◌≡◌, refl, sym, ap, ◌∙◌, List, �
 use Rattle.wire.specs.Words.{bytes2, bytes4}
 use Rattle.wire.specs.Records.{slot, gather}
 use Rattle.wire.specs.Places.{first_bad, all}
-use Rattle.wire.specs.Tables.{first}
 use Rattle.numbers.specs.Types.{type_of, value, inside}
 use Rattle.numbers.specs.Results.{exact, settled, outcome, text_of}
 use Rattle.contents.specs.Contents.{body_start, body_size, body_of, follows_ok, contents_ok}
@@ -17,9 +16,8 @@ use Rattle.project.specs.Project.{row_of, device, group_count, run_linked, input
 use Rattle.project.specs.Project.{link_in}
 use Rattle.project.specs.Project.{output_count, record_size}
 use Rattle.casefile.specs.Bodies.{body_in, project_of, record_of}
-use Rattle.casefile.specs.declared.Verdict.TheVariants.{Accepted}
+use Rattle.std.specs.Prelude.{Ok}
 use Rattle.casefile.specs.Refusal.{verdict}
-use Rattle.casefile.proofs.Refusals.{accepted_zero}
 use Rattle.block.specs.State.{decode, encode, fresh_bytes, enters_from}
 use Rattle.block.specs.Formed.{arithmetic_ok, formed, well_formed}
 use Rattle.block.specs.Inputs.{first_read_of, first_read, second_read_of, second_read}
@@ -27,7 +25,6 @@ use Rattle.block.specs.Arithmetic.{op_of, result_of}
 use Rattle.block.specs.Step.{arithmetic_step, read_of, step_of, block_step}
 use Rattle.block.specs.Shows.{shows_of, shows, word_ok}
 use Rattle.block.specs.Finding.{finding_bytes, said_of, finding_of}
-use Rattle.evaluator.specs.declared.Answer.TheVariants.{Findings}
 use Rattle.evaluator.specs.Net.{after}
 use Rattle.evaluator.specs.State.{cell, state_length, outputs_length, findings_length, cell_formed, state_formed}
 use Rattle.evaluator.specs.Groups.{input_word, erred_in, has_error, group_next, phase_from, group_from, phase_of}
@@ -36,17 +33,18 @@ use Rattle.evaluator.specs.Groups.{phase}
 use Rattle.wire.specs.Packed.{entries, hits, packed}
 use Rattle.evaluator.specs.Cycle.{wires, turned_from, net, ran, new_block, words_read, new_head, new_state, output_word}
 use Rattle.evaluator.specs.Cycle.{new_outputs, finding_for, enters, finding, finding_count, new_findings}
-use Rattle.evaluator.specs.Answer.{Lent, Left, lends, leaves, control_ok, input_fits, record_ok, sizes_ok, call_rows}
+use Rattle.evaluator.specs.Answer.{Lent, Left, lends, leaves, control_ok, input_fits, record_ok, sizes_ok}
+use Rattle.evaluator.specs.Answer.{call_tested}
 use Rattle.evaluator.specs.Answer.{cycle_of}
 use Rattle.evaluator.specs.Fresh.{fresh_for}
-use Rattle.evaluator.proofs.Calls.{refused_rows, call_done}
+use Rattle.evaluator.proofs.Calls.{verdict_tested, call_done}
 use Rattle.demands.specs.Listing.{listing}
 use Rattle.demands.specs.Examples.{subtraction, subtraction_record}
 use Rattle.demands.proofs.Accepted.{accepted_all}
 
 -- what a call leaves, by its count of findings and its three buffers
 abbrev counted : ℕ → List ℕ → List ℕ → List ℕ → Left
-counted n state outputs findings = record { answer = Findings n; lent = lends state outputs findings }
+counted n state outputs findings = record { answer = Ok n; lent = lends state outputs findings }
 
 -- the fresh state, and buffers of zeros of the right sizes
 abbrev pub at_first : Lent
@@ -75,10 +73,10 @@ after_p1 =
     (0 ∷ 0 ∷ bytes2 16512 ++ bytes2 1 ++ 0 ∷ 0 ∷ bytes4 4294934528 ++ bytes4 1)
 
 -- no call is turned down by what is lent or by its record
-fit : (first (call_rows (project_of listing) (record_of listing 0) at_first) ≡ 0)
-    × (first (call_rows (project_of listing) (record_of listing 1) after_first.lent) ≡ 0)
-    × (first (call_rows (project_of subtraction) subtraction_record before_p1) ≡ 0)
-unfolding listing subtraction first project_of record_of body_start body_size body_of follows_ok contents_ok body_in
+fit : (call_tested (project_of listing) (record_of listing 0) at_first ≡ Ok tt)
+    × (call_tested (project_of listing) (record_of listing 1) after_first.lent ≡ Ok tt)
+    × (call_tested (project_of subtraction) subtraction_record before_p1 ≡ Ok tt)
+unfolding listing subtraction project_of record_of body_start body_size body_of follows_ok contents_ok body_in
     row_of sizes_ok state_length outputs_length findings_length state_formed cell_formed well_formed formed
     arithmetic_ok record_ok control_ok input_fits word_ok input_word cell fresh_for fresh_bytes encode decode type_of
     value inside family_of device_of is_within device group_count run_linked input_count block_count parameters_in
@@ -86,16 +84,15 @@ unfolding listing subtraction first project_of record_of body_start body_size bo
 fit = (refl, refl, refl)
 
 -- so the call answers and leaves what the cycle does
-done : (F : List ℕ) → verdict F ≡ Accepted → (R : List ℕ) (L : Lent) →
-    first (call_rows (project_of F) R L) ≡ 0 →
-    cycle_of F R L ≡ leaves 0 (project_of F) R L
-done F ok R L e =
-    call_done F R L (sym (refused_rows F R L (accepted_zero F ok) (project_of F) refl) ∙ e)
+done : (F : List ℕ) → verdict F ≡ Ok tt → (R : List ℕ) (L : Lent) →
+    call_tested (project_of F) R L ≡ Ok tt →
+    cycle_of F R L ≡ leaves (Ok tt) (project_of F) R L
+done F ok R L e = call_done F R L (sym (verdict_tested F R L ok (project_of F) refl) ∙ e)
 
 -- the cycles
-computed : (leaves 0 (project_of listing) (record_of listing 0) at_first ≡ after_first)
-    × (leaves 0 (project_of listing) (record_of listing 1) after_first.lent ≡ after_second)
-    × (leaves 0 (project_of subtraction) subtraction_record before_p1 ≡ after_p1)
+computed : (leaves (Ok tt) (project_of listing) (record_of listing 0) at_first ≡ after_first)
+    × (leaves (Ok tt) (project_of listing) (record_of listing 1) after_first.lent ≡ after_second)
+    × (leaves (Ok tt) (project_of subtraction) subtraction_record before_p1 ≡ after_p1)
 unfolding listing subtraction project_of record_of body_start body_size body_of follows_ok contents_ok body_in row_of
     finding_count new_state new_head new_outputs new_findings output_word new_group group_from new_block ran
     words_read enters enters_from finding finding_for finding_of said_of finding_bytes text_of hits packed entries

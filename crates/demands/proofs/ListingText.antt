@@ -8,17 +8,18 @@ use Rattle.kind.specs.Kinds.{family_of}
 use Rattle.project.specs.Project.{row_of, group_count, input_count, block_count, parameters_in, output_count}
 use Rattle.project.specs.Project.{record_size}
 use Rattle.casefile.specs.Bodies.{body_in, project_of, record_count, record_of}
-use Rattle.casefile.proofs.Refusals.{accepted_zero}
+use Rattle.casefile.specs.declared.table.Rule.{Rule}
+use Rattle.std.specs.Prelude.{Result}
 use Rattle.block.specs.Finding.{finding_in}
 use Rattle.evaluator.specs.State.{outputs_length, findings_length}
+use Rattle.evaluator.specs.declared.Refusal.{Refusal}
 use Rattle.evaluator.specs.Answer.{Lent, Left}
 use Rattle.evaluator.specs.Runs.{run}
 use Rattle.report.specs.Decimal.{digits_within, decimal, signed_decimal}
 use Rattle.report.specs.Lines.{finding_line, end_line}
 use Rattle.report.specs.Samples.{codes}
-use Rattle.tracer.specs.declared.End.{End}
-use Rattle.tracer.specs.declared.End.TheVariants.{Ran}
-use Rattle.tracer.specs.Traced.{records_from, fresh_lent, calls, ended, run_end, unless_refused, end_of}
+use Rattle.tracer.specs.declared.Ran.{Ran}
+use Rattle.tracer.specs.Traced.{records_from, fresh_lent, calls, all_ran, ended, run_end, unless_refused, end_of}
 use Rattle.tracer.specs.Text.{line_of, lines_of, last_line, texts_from, texts, joined, trace_text}
 use Rattle.demands.specs.Listing.{listing, listing_prints}
 use Rattle.demands.proofs.Accepted.{accepted_all}
@@ -38,13 +39,13 @@ called =
     ∙ ap₂ (λ (a b : Left). a ∷ b ∷ []) listing_first listing_second
 
 -- 01, "The trace program": two cycles, one finding
-pub listing_end : end_of listing ≡ Ran 2 1
+pub listing_end : end_of listing ≡ all_ran 2 1
 unfolding end_of run_end ended
 listing_end =
-    ap₂ (λ (n : ℕ) (ls : List Left). unless_refused n (ended 0 0 ls))
-    (accepted_zero listing accepted_all.0.0) called
+    ap₂ (λ (v : Result (Unit {0}) Rule) (ls : List Left). unless_refused v (ended 0 0 ls)) accepted_all.0.0 called
 
-computed : joined (texts_from (project_of listing).blocks 0 (after_first ∷ after_second ∷ [])) ++ last_line (Ran 2 1)
+computed :
+    joined (texts_from (project_of listing).blocks 0 (after_first ∷ after_second ∷ [])) ++ last_line (all_ran 2 1)
     ≡ listing_prints
 unfolding listing project_of body_start body_size body_of follows_ok contents_ok body_in row_of parameters_in
     family_of type_of value finding_in joined texts_from lines_of line_of finding_line end_line digits_within decimal
@@ -55,6 +56,8 @@ computed = refl
 pub listing_text : trace_text listing ≡ listing_prints
 unfolding trace_text texts
 listing_text =
-    ap₂ (λ (ls : List Left) (e : End). joined (texts_from (project_of listing).blocks 0 ls) ++ last_line e)
+    ap₂
+    (λ (ls : List Left) (e : Result Ran Refusal).
+    joined (texts_from (project_of listing).blocks 0 ls) ++ last_line e)
     called listing_end
     ∙ computed

@@ -3,6 +3,7 @@
 -- both. Assumes nothing.
 use Rattle.wire.proofs.Usual.{◌≡◌, refl, sym, ap, ◌∙◌, Bool, true, false, true≢false, not, ◌&&◌, ◌||◌, List}
 use Rattle.wire.proofs.Usual.{ℕ, ◌/◌, ◌%◌, ◌<◌, ◌≤◌, dec_lt, arith, ltb, eqb, eqb-true, lt-ltb, ltb-true, length}
+use Rattle.std.specs.Prelude.{Option, Some, None}
 use mathlib.Core.Logic.{◌↔◌}
 use lib.ListN.{get_or-eq_default}
 use Rattle.wire.specs.Words.{byte_at}
@@ -10,7 +11,7 @@ use Rattle.wire.specs.Places.{all, first_bad}
 use Rattle.wire.proofs.Places.{all_each}
 use Rattle.contents.specs.Contents.{body_start, body_size, body_of, follows_ok, contents_ok}
 use Rattle.project.specs.declared.Source.{Source}
-use Rattle.project.specs.declared.Source.TheVariants.{Nothing, External, Output}
+use Rattle.project.specs.declared.Source.TheVariants.{External, Output}
 use Rattle.project.specs.Project.{Project, row_of, block_size, block_count, order_place, order_of, link_count, link_in}
 use Rattle.project.specs.Project.{link_of}
 use Rattle.project.specs.Alike.{IsOrderByte, Alike}
@@ -36,10 +37,10 @@ byte_same : ℕ → Bool
 byte_same i = eqb (i % block_size) order_place || eqb (byte_at P.blocks i) (byte_at P'.blocks i)
 
 -- a source of block b runs before it in both or in neither
-before : ℕ → Source → Bool
-before b Nothing = true
-before b (External i) = true
-before b (Output a q) =
+before : ℕ → Option Source → Bool
+before b None = true
+before b (Some (External i)) = true
+before b (Some (Output a q)) =
     not (ltb (order_of P.blocks a) (order_of P.blocks b))
     && not (ltb (order_of P'.blocks a) (order_of P'.blocks b))
     || ltb (order_of P.blocks a) (order_of P.blocks b)
@@ -112,7 +113,7 @@ same_order x y u v = go (ltb x y) refl (ltb u v) refl
       λ l. absurd (true≢false (sym (lt-ltb u v l) ∙ f)),
     )
 
-same_along : (b p a q : ℕ) → b < block_count P.blocks → link_of P.blocks b p ≡ Output a q →
+same_along : (b p a q : ℕ) → b < block_count P.blocks → link_of P.blocks b p ≡ Some (Output a q) →
     (order_of P.blocks a < order_of P.blocks b) ↔ (order_of P'.blocks a < order_of P'.blocks b)
 unfolding before before_all
 same_along b p a q l e = go (dec_lt p link_count)
@@ -125,7 +126,7 @@ same_along b p a q l e = go (dec_lt p link_count)
         ∙ all_each (λ p. before b (link_of P.blocks b p)) link_count
         (all_each before_all 3 computed.along b (omega (arith, computed.count))) p m)
     go (no n) =
-        let none : Nothing ≡ Output a q = sym (past_links P.blocks b p (omega (arith, n))) ∙ e in
+        let none : None ≡ Some (Output a q) = sym (past_links P.blocks b p (omega (arith, n))) ∙ e in
         let never : ◌≡◌ {A = ℕ} 0 1 = cc in
         absurd (omega arith)
 

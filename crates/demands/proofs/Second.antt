@@ -7,9 +7,8 @@ use Rattle.numbers.proofs.Unique.{second_answer}
 use Rattle.wire.specs.Words.{bytes4}
 use Rattle.numbers.specs.Types.{value, type_of, signed, z_of}
 use Rattle.numbers.specs.Results.{settled, outcome, rounding_of}
-use Rattle.numbers.specs.declared.Op.TheVariants.{Add, Sub, Mul, Div}
-use Rattle.kind.specs.Kinds.{family_of}
-use Rattle.kind.specs.Devices.{device_of}
+use Rattle.kind.specs.Kinds.{kind_from, family_of}
+use Rattle.kind.specs.Devices.{device_from, device_of}
 use Rattle.kind.specs.Parameters.{limits_of}
 use Rattle.project.specs.Project.{link_in, counts_of, counts_in, row_of, input_size, block_size, output_size}
 use Rattle.project.specs.Project.{parameters_in}
@@ -18,18 +17,21 @@ use Rattle.casefile.specs.Refusal.{verdict}
 use Rattle.block.specs.State.{fresh_bytes}
 use Rattle.block.specs.Step.{rest_bytes, decouple_bytes, twohand_bytes, arithmetic_bytes}
 use Rattle.block.specs.Finding.{finding_of, finding_in}
-use Rattle.evaluator.specs.declared.Answer.{Answer}
+use Rattle.std.specs.Prelude.{Result}
+use Rattle.evaluator.specs.declared.Refusal.{Refusal}
 use Rattle.evaluator.specs.Answer.{Lent, lends}
-use Rattle.evaluator.specs.Fresh.{sizes_of}
+use Rattle.evaluator.specs.Fresh.{sizes_of, fresh_number, fresh_verdict}
 use Rattle.evaluator.specs.Asks.{order_list, error_list}
 use Rattle.report.specs.Lines.{finding_line, end_line, refused_line}
 use Rattle.report.specs.LedgerLines.{rate_line, no_rate_line, bend_line}
+use Rattle.year.specs.Ledger.{verdict as ledger_verdict}
 use Rattle.year.specs.Months.{share_of}
 use Rattle.year.specs.Year.{year_of}
+use Rattle.yearbook.specs.Text.{told}
 use Rattle.tracer.specs.Traced.{end_of}
 use Rattle.hagglethwait.specs.Calls.{answer_number}
 use Rattle.demands.specs.Words.{Gives, TurnWords, LineWords, CycleWords, FreshWords, StepWords, SizesWords}
-use Rattle.demands.specs.Words.{Columns, columns, LedgerWords}
+use Rattle.demands.specs.Words.{Columns, columns, LedgerWords, BodiesWords}
 use Rattle.demands.specs.Words.{OneAnswer, of1, of2, of3, of4, of5, of6, of9}
 
 -- ---- two that meet the same words
@@ -46,11 +48,12 @@ line_same : {line old : List ℕ} {x y : record { answer : ℕ; bytes : List ℕ
     LineWords line old x → LineWords line old y → x ≡ y
 line_same p q = pair_same (second_answer p.whole q.whole) (second_answer p.bytes q.bytes)
 
-fresh_same : {F old : List ℕ} {x y : record { answer : ℕ; bytes : List ℕ }} →
-    FreshWords F old x → FreshWords F old y → x ≡ y
+fresh_same : {N : Type 0} {answer : List ℕ → List ℕ → N} {F old : List ℕ}
+    {x y : record { answer : N; bytes : List ℕ }} →
+    FreshWords answer F old x → FreshWords answer F old y → x ≡ y
 fresh_same p q = pair_same (second_answer p.answered q.answered) (second_answer p.left q.left)
 
-step_same : {G I B R S D : List ℕ} {x y : record { answer : Answer; state : List ℕ; findings : List ℕ }} →
+step_same : {G I B R S D : List ℕ} {x y : record { answer : Result ℕ Refusal; state : List ℕ; findings : List ℕ }} →
     StepWords G I B R S D x → StepWords G I B R S D y → x ≡ y
 step_same p q = λ i. record {
   answer = second_answer p.answered q.answered i;
@@ -58,7 +61,7 @@ step_same p q = λ i. record {
   findings = second_answer p.told q.told i;
 }
 
-cycle_same : {N : Type 0} {tells : Answer → N} {F R : List ℕ} {L : Lent}
+cycle_same : {N : Type 0} {tells : Result ℕ Refusal → N} {F R : List ℕ} {L : Lent}
     {x y : record { answer : N; lent : Lent }} →
     CycleWords tells F R L x → CycleWords tells F R L y → x ≡ y
 cycle_same p q = λ i. record {
@@ -90,6 +93,17 @@ ledger_same p q = λ i. record {
     rates = second_answer p.rated q.rated i;
     bends = second_answer p.bent q.bent i;
   };
+}
+
+bodies_same : {F : List ℕ}
+    {x y : record { groups : List ℕ; inputs : List ℕ; blocks : List ℕ; outputs : List ℕ; trace : List ℕ }} →
+    BodiesWords F x → BodiesWords F y → x ≡ y
+bodies_same p q = λ i. record {
+  groups = second_answer p.groups q.groups i;
+  inputs = second_answer p.inputs q.inputs i;
+  blocks = second_answer p.blocks q.blocks i;
+  outputs = second_answer p.outputs q.outputs i;
+  trace = second_answer p.trace q.trace i;
 }
 
 -- ---- two that meet the same contract
@@ -128,27 +142,23 @@ pub wire_one :
 wire_one = (gives, gives, gives, gives, gives)
 
 pub numbers_one :
-    OneAnswer Rattle.numbers.proofs.load.Reads.Post (of2 (λ t w. Gives (signed (value t w)))) (λ κs s r. r)
-    × OneAnswer Rattle.numbers.proofs.settle.Reads.Post (of2 (λ t v. Gives (settled t (z_of v)))) (λ κs s r. r)
-    × OneAnswer Rattle.numbers.proofs.sum.Reads.Post
-    (of5 (λ ta a tb b t. Gives (outcome Add ta a tb b t))) (λ κs s r. r)
-    × OneAnswer Rattle.numbers.proofs.difference.Reads.Post
-    (of5 (λ ta a tb b t. Gives (outcome Sub ta a tb b t))) (λ κs s r. r)
-    × OneAnswer Rattle.numbers.proofs.product.Reads.Post
-    (of5 (λ ta a tb b t. Gives (outcome Mul ta a tb b t))) (λ κs s r. r)
-    × OneAnswer Rattle.numbers.proofs.quotient.Reads.Post
-    (of6 (λ rounding ta a tb b t. Gives (outcome (Div rounding) ta a tb b t))) (λ κs s r. r)
+    OneAnswer Rattle.numbers.proofs.NumType.load.Reads.Post (of2 (λ t w. Gives (signed (value t w)))) (λ κs s r. r)
+    × OneAnswer Rattle.numbers.proofs.NumType.settle.Reads.Post (of2 (λ t v. Gives (settled t (z_of v)))) (λ κs s r. r)
     × OneAnswer Rattle.numbers.proofs.compute.Reads.Post
     (of6 (λ op ta a tb b t. Gives (outcome op ta a tb b t))) (λ κs s r. r)
-    × OneAnswer Rattle.numbers.proofs.type_of.Reads.Post (of1 (λ b. Gives (type_of b))) (λ κs s r. r)
-    × OneAnswer Rattle.numbers.proofs.rounding_of.Reads.Post (of1 (λ b. Gives (rounding_of b))) (λ κs s r. r)
-numbers_one = (gives, gives, gives, gives, gives, gives, gives, gives, gives)
+    × OneAnswer Rattle.numbers.proofs.NumTypeFromU8.from.Reads.Post (of1 (λ b. Gives (type_of b))) (λ κs s r. r)
+    × OneAnswer Rattle.numbers.proofs.RoundingFromU8.from.Reads.Post (of1 (λ b. Gives (rounding_of b))) (λ κs s r. r)
+numbers_one = (gives, gives, gives, gives, gives)
 
 pub kind_one :
     OneAnswer Rattle.kind.proofs.device_of.Reads.Post (of1 (λ device. Gives (device_of device))) (λ κs s r. r)
     × OneAnswer Rattle.kind.proofs.family_of.Reads.Post (of1 (λ kind. Gives (family_of kind))) (λ κs s r. r)
+    × OneAnswer Rattle.kind.proofs.kinds.KindTryFromU8.try_from.Reads.Post
+    (of1 (λ byte. Gives (kind_from byte))) (λ κs s r. r)
+    × OneAnswer Rattle.kind.proofs.devices.DeviceTryFromU8.try_from.Reads.Post
+    (of1 (λ byte. Gives (device_from byte))) (λ κs s r. r)
     × OneAnswer Rattle.kind.proofs.limits_of.Reads.Post (of1 (λ p. Gives (limits_of p.now))) (λ κs s r. r)
-kind_one = (gives, gives, gives)
+kind_one = (gives, gives, gives, gives, gives)
 
 pub project_one :
     OneAnswer Rattle.project.proofs.counts_of.Reads.Post
@@ -176,7 +186,26 @@ pub casefile_one :
     (of1 (λ file. Gives (starts_of file.now))) (λ κs s r. r)
     × OneAnswer Rattle.casefile.proofs.body.Reads.Post
     (of3 (λ file starts e. Gives (stretch_of file.now starts e))) (λ κs s r. r.now)
-casefile_one = (gives, gives, one (λ κs a x y. second_answer) (λ κs a r s p. p.0), gives)
+    × OneAnswer Rattle.casefile.proofs.reader.Bodies.of.Reads.Post (of1 (λ file. BodiesWords file.now))
+    (λ κs s r. record {
+      groups = r.groups.now;
+      inputs = r.inputs.now;
+      blocks = r.blocks.now;
+      outputs = r.outputs.now;
+      trace = r.trace.now;
+    })
+    × OneAnswer Rattle.casefile.proofs.reader.Bodies.counts.Reads.Post
+    (of1 (λ b. Gives (counts_of b.groups.now b.inputs.now b.blocks.now b.outputs.now))) (λ κs s r. r)
+casefile_one = (
+  gives,
+  gives,
+  one (λ κs a x y. second_answer) (λ κs a r s p. p.0),
+  gives,
+  one (λ κs a x y. bodies_same)
+      (λ κs a r s p. record
+      { groups = p.0; inputs = p.1.0; blocks = p.1.1.0; outputs = p.1.1.1.0; trace = p.1.1.1.1 }),
+  gives,
+)
 
 pub block_one :
     OneAnswer Rattle.block.proofs.rest.Reads.Post
@@ -215,7 +244,8 @@ pub evaluator_one :
     record { answer = r; lent = lends state.now outputs.now findings.now }))
     × OneAnswer Rattle.evaluator.proofs.sizes_of.Reads.Post
     (of1 (λ file. Gives (sizes_of file.now))) (λ κs s r. r)
-    × OneAnswer Rattle.evaluator.proofs.fresh.Reads.Post (of2 (λ file state. FreshWords file.now state.now))
+    × OneAnswer Rattle.evaluator.proofs.fresh.Reads.Post
+    (of2 (λ file state. FreshWords fresh_verdict file.now state.now))
     (of2 (λ file state r. record { answer = r; bytes = state.now }))
     × OneAnswer Rattle.evaluator.proofs.unchecked.block_order.Reads.Post
     (of2 (λ c blocks. Gives (order_list blocks.now))) (λ κs s r. r)
@@ -267,9 +297,14 @@ report_one = (
 )
 
 pub year_one :
-    OneAnswer Rattle.year.proofs.share_of.Reads.Post (of1 (λ l. Gives (share_of l))) (λ κs s r. r)
+    OneAnswer Rattle.year.proofs.check.Reads.Post (of1 (λ file. Gives (ledger_verdict file.now))) (λ κs s r. r)
+    × OneAnswer Rattle.year.proofs.share_of.Reads.Post (of1 (λ l. Gives (share_of l))) (λ κs s r. r)
     × OneAnswer Rattle.year.proofs.year_of.Reads.Post (of1 (λ file. Gives (year_of file.now))) (λ κs s r. r)
-year_one = (gives, gives)
+year_one = (gives, gives, gives)
+
+pub yearbook_one :
+    OneAnswer Rattle.yearbook.proofs.tell.Reads.Post (of1 (λ file. Gives (told file.now))) (λ κs s r. r)
+yearbook_one = gives
 
 pub tracer_one :
     OneAnswer Rattle.tracer.proofs.trace.Reads.Post (of1 (λ file. Gives (end_of file.now))) (λ κs s r. r)
@@ -282,7 +317,7 @@ pub hagglethwait_one :
     (of4 (λ file state outputs findings r.
     record { answer = r; state = state.now; outputs = outputs.now; findings = findings.now }))
     × OneAnswer Rattle.hagglethwait.proofs.hagglethwait_fresh.Reads.Post
-    (of2 (λ file state. FreshWords file.now state.now))
+    (of2 (λ file state. FreshWords fresh_number file.now state.now))
     (of2 (λ file state r. record { answer = r; bytes = state.now }))
     × OneAnswer Rattle.hagglethwait.proofs.hagglethwait_cycle.Reads.Post
     (of5 (λ file rec state outputs findings.

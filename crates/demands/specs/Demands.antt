@@ -11,18 +11,16 @@
 -- `p1_call` and `p2_call` are P1 and P2 as cycle calls. Two of the four files differ in their execution numbers
 -- (`pair_differs`), are alike for demand 3 (`pair_alike`), and so have the same runs (`pair_runs`).
 use Rattle.std.specs.Prelude.{ℕ, zero, suc, ◌+◌, ◌*◌, ◌≤◌, ◌<◌, ◌≡◌, ◌↔◌, ◌≢◌, Bool, true, ◌&&◌, List, [], ◌∷◌, ◌++◌}
-use Rattle.std.specs.Prelude.{map, leb}
+use Rattle.std.specs.Prelude.{map, leb, Result, Ok, Err}
 use Rattle.wire.specs.Words.{byte_at}
 use Rattle.wire.specs.Records.{slot}
 use Rattle.wire.specs.Tables.{Row, FirstIn, AllKept}
 use Rattle.project.specs.Project.{Project, group_count, block_count, kind_of, group_of, order_of}
 use Rattle.project.specs.Alike.{Alike}
-use Rattle.casefile.specs.declared.Verdict.TheVariants.{Accepted}
 use Rattle.casefile.specs.Bodies.{body_t, body_in, project_of, record_count}
 use Rattle.casefile.specs.Refusal.{file_table, verdict, number_of}
 use Rattle.block.specs.Finding.{finding_size, finding_of}
-use Rattle.evaluator.specs.declared.Answer.TheVariants.{Findings}
-use Rattle.evaluator.specs.declared.Sizes.TheVariants.{Bytes}
+use Rattle.evaluator.specs.declared.Refusal.{Refusal}
 use Rattle.evaluator.specs.Net.{words, seen}
 use Rattle.evaluator.specs.State.{cell, state_length, outputs_length, findings_length, state_formed}
 use Rattle.evaluator.specs.Groups.{phase}
@@ -32,11 +30,11 @@ use Rattle.evaluator.specs.Cycle.{new_outputs}
 use Rattle.evaluator.specs.Cycle.{new_findings, enters, finding_count}
 use Rattle.evaluator.specs.Answer.{Lent, Left, call_table, cycle_of, number_in}
 use Rattle.evaluator.specs.Runs.{run}
-use Rattle.evaluator.specs.Fresh.{sizes_of, sizes_number, fresh_for, fresh_table, fresh_number, fresh_left}
+use Rattle.evaluator.specs.Fresh.{sizes_of, sizes_number, fresh_for, fresh_table, fresh_number, fresh_verdict}
+use Rattle.evaluator.specs.Fresh.{fresh_left}
 use Rattle.report.specs.Lines.{refused_line}
-use Rattle.tracer.specs.declared.End.{End}
-use Rattle.tracer.specs.declared.End.TheVariants.{Refused as Halted, Ran}
-use Rattle.tracer.specs.Traced.{records_from, fresh_lent, calls, goes_on, end_number, end_of}
+use Rattle.tracer.specs.declared.Ran.{Ran}
+use Rattle.tracer.specs.Traced.{records_from, fresh_lent, calls, goes_on, all_ran, end_number, end_of}
 use Rattle.tracer.specs.Text.{lines_of, last_line, trace_text}
 
 -- ---- demand 1: the first rule in the order that is not kept, exactly then
@@ -61,7 +59,7 @@ pub record Answered (F R : List ℕ) (L : Lent) : Type 0 where
   pub untouched : number_in (cycle_of F R L).answer ≢ 0 → (cycle_of F R L).lent ≡ L
   pub count :
       number_in (cycle_of F R L).answer ≡ 0 →
-      (cycle_of F R L).answer ≡ Findings (finding_count (project_of F).groups (project_of F).blocks R L.state)
+      (cycle_of F R L).answer ≡ Ok (finding_count (project_of F).groups (project_of F).blocks R L.state)
 
 -- 01, "Turned down", Sizes: an accepted file is told the exact sizes of its three buffers
 pub record SizesAnswered (F : List ℕ) : Type 0 where
@@ -69,12 +67,16 @@ pub record SizesAnswered (F : List ℕ) : Type 0 where
   pub told :
       sizes_number (sizes_of F) ≡ 0 →
       sizes_of F
-      ≡ Bytes (state_length (project_of F).groups (project_of F).blocks) (outputs_length (project_of F).outputs)
-      (findings_length (project_of F).blocks)
+      ≡ Ok (record {
+        state = state_length (project_of F).groups (project_of F).blocks;
+        outputs = outputs_length (project_of F).outputs;
+        findings = findings_length (project_of F).blocks;
+      })
 
 -- 01, "Turned down", 10, and "Block state", Fresh: the fresh state takes a file and a buffer, which a refused call
--- leaves as it was. `fresh_table F S` has the file's rules and then 10
+-- leaves as it was. `fresh_table F S` has the file's rules and then 10, and the answer's number is `fresh_number F S`
 pub record FreshAnswered (F S : List ℕ) : Type 0 where
+  pub answer : number_in (fresh_verdict F S) ≡ fresh_number F S
   pub number : Numbered (fresh_table F S) (fresh_number F S)
   pub untouched : fresh_number F S ≢ 0 → fresh_left F S ≡ S
   pub written : fresh_number F S ≡ 0 → fresh_left F S ≡ fresh_for (project_of F)
@@ -137,9 +139,9 @@ CycledBy F R L P k = Cycled F R L P.groups P.blocks P.outputs L.state k
 -- formed
 pub record Demand2 : Type 0 where
   pub cycles :
-      (F R : List ℕ) (L : Lent) (k : ℕ) → (cycle_of F R L).answer ≡ Findings k → CycledBy F R L (project_of F) k
+      (F R : List ℕ) (L : Lent) (k : ℕ) → (cycle_of F R L).answer ≡ Ok k → CycledBy F R L (project_of F) k
   pub fresh :
-      (F : List ℕ) → verdict F ≡ Accepted →
+      (F : List ℕ) → verdict F ≡ Ok tt →
       state_formed (project_of F).groups (project_of F).blocks (fresh_for (project_of F)) ≡ true
 
 -- ---- demand 3: only the order along links matters
@@ -148,22 +150,22 @@ pub record Demand2 : Type 0 where
 -- projects are alike give the same answers and leave the same bytes, over the same records, refused ones among them
 unfoldable pub Demand3 : Type 0
 Demand3 =
-    (F F' : List ℕ) → verdict F ≡ Accepted → verdict F' ≡ Accepted →
+    (F F' : List ℕ) → verdict F ≡ Ok tt → verdict F' ≡ Ok tt →
     Alike (project_of F) (project_of F') → (Rs : List (List ℕ)) (L : Lent) → run F Rs L ≡ run F' Rs L
 
 -- ---- a whole trace: the calls of the demands, one after the other
 
 -- 01, "The trace program": how a trace over some records ends, and what it prints but for its last line
 pub record Printout : Type 0 where
-  pub end : End
+  pub end : Result Ran Refusal
   pub text : List ℕ
 
 -- 01, "The trace program": the cycle call folded over the records, each from what the one before it left, up to the
 -- first that is turned down. c cycles have run so far, with n findings
 unfoldable pub trace_over : List ℕ → List (List ℕ) → Lent → ℕ → ℕ → Printout
-trace_over F [] L c n = record { end = Ran c n; text = [] }
+trace_over F [] L c n = record { end = all_ran c n; text = [] }
 trace_over F (R ∷ Rs) L c n =
-    goes_on (cycle_of F R L).answer (λ m. record { end = Halted m; text = [] })
+    goes_on (cycle_of F R L).answer (λ r. record { end = Err r; text = [] })
     (λ k.
     let rest = trace_over F Rs (cycle_of F R L).lent (c + 1) (n + k) in
     record {
@@ -191,11 +193,11 @@ pub record Traces : Type 0 where
       (F : List ℕ) (n : ℕ) → number_of (verdict F) ≡ suc n →
       (end_number (end_of F) ≡ suc n) × (trace_text F ≡ refused_line (suc n))
   pub folded :
-      (F : List ℕ) → verdict F ≡ Accepted →
+      (F : List ℕ) → verdict F ≡ Ok tt →
       let t = trace_over F (records_from F 0 (record_count F)) (fresh_lent F) 0 0 in
       (end_of F ≡ t.end) × (trace_text F ≡ t.text ++ last_line t.end)
   pub number : (F : List ℕ) → end_number (end_of F) ≡ first_number (number_of (verdict F) ∷ numbers_of (calls F))
   pub renumbered :
-      (F F' : List ℕ) → verdict F ≡ Accepted → verdict F' ≡ Accepted →
+      (F F' : List ℕ) → verdict F ≡ Ok tt → verdict F' ≡ Ok tt →
       Alike (project_of F) (project_of F') → body_in F body_t ≡ body_in F' body_t →
       (end_of F ≡ end_of F') × (trace_text F ≡ trace_text F')

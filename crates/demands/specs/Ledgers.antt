@@ -1,22 +1,21 @@
 -- What is promised of a ledger, over bytes (02, W4). F is the file. The contract of `year::year_of` is an equation with
--- `year_of F`, that of `year::check` one with its number, and the function of `yearbook` that writes requires
+-- `year_of F`, that of `year::check` one with `verdict F`, and the function of `yearbook` that writes requires
 -- `ledger_text F`, so what is proved of these holds of the code. The proof is `ledgers` of proofs/Ledgers.antt.
 --
 -- That it speaks of something is computed in proofs/LedgerText.antt: `example_text` has the two tables of a ledger of
 -- six findings as the program prints them.
-use Rattle.std.specs.Prelude.{ℕ, ◌+◌, ◌*◌, ◌<◌, ◌≤◌, ◌≡◌, ◌↔◌, ◌≢◌, true, false, List, ltb, pos}
+use Rattle.std.specs.Prelude.{ℕ, ◌+◌, ◌*◌, ◌<◌, ◌≤◌, ◌≡◌, ◌↔◌, ◌≢◌, true, false, List, ltb, pos, Float}
+use Rattle.std.specs.Prelude.{Option, Some, None, Result, Ok, Err}
 use Rattle.std.specs.Float.{fin, binary64}
 use Rattle.std.specs.Float.Ieee.{round, to_bits}
 use Rattle.contents.specs.Contents.{body_of}
 use Rattle.year.specs.declared.Closings.{Closings}
 use Rattle.year.specs.declared.Closings.TheVariants.{Every, Person}
 use Rattle.year.specs.declared.Line.{Line}
-use Rattle.year.specs.declared.Share.{Share}
-use Rattle.year.specs.declared.Share.TheVariants.{Rate, Nothing}
-use Rattle.year.specs.declared.Bend.TheVariants.{After, Nothing as NoBend}
-use Rattle.year.specs.declared.Table.{Table}
-use Rattle.year.specs.Ledger.{month_count, month_most, ledger_table, ledger_number}
-use Rattle.year.specs.Months.{found, dismissed, line_of, share_of, bits_of}
+use Rattle.year.specs.declared.Year.{Year}
+use Rattle.year.specs.declared.rules.Refusal.{Refusal}
+use Rattle.year.specs.Ledger.{month_count, month_most, answer_number, verdict, ledger_table, ledger_number}
+use Rattle.year.specs.Months.{found, dismissed, share_of, bits_of}
 use Rattle.year.specs.Bends.{line_at, sides_at, both_sides, under, larger, bend_of}
 use Rattle.year.specs.Year.{table_of, year_of}
 use Rattle.year.specs.Nearest.{Nearest}
@@ -25,31 +24,31 @@ use Rattle.demands.specs.Demands.{Numbered}
 
 -- ---- the number
 
--- 02, W4: no table: twelve lines without a finding, and no bend (DECISIONS 57)
-pub record NoTable (t : Table) : Type 0 where
-  pub line : (m : ℕ) → m < month_count → line_at t.lines m ≡ line_of 0 0
-  pub share : share_of (line_of 0 0) ≡ Nothing
-  pub bend : t.bend ≡ NoBend
+-- 02, W4: an answer that is a refusal: what carries the tables is not there (DECISIONS 57)
+abbrev pub Refused : Result Year Refusal → Type 0
+Refused a = (e : Refusal) × (a ≡ Err e)
 
--- 02, W4: 21 to 24 in this order, exactly then; each gives no table, and an accepted ledger has both
+-- 02, W4: 21 to 24 in this order, exactly then; each gives no table, and an accepted ledger has both. The answer of
+-- `year::check` has the same number
 pub record LedgerAnswered (F : List ℕ) : Type 0 where
-  pub number : Numbered (ledger_table F) (year_of F).number
-  pub refused : (year_of F).number ≢ 0 → NoTable (year_of F).every × NoTable (year_of F).person
+  pub number : Numbered (ledger_table F) (answer_number (year_of F))
+  pub checked : answer_number (verdict F) ≡ answer_number (year_of F)
+  pub refused : answer_number (year_of F) ≢ 0 → Refused (year_of F)
   pub accepted :
-      (year_of F).number ≡ 0 → ((year_of F).every ≡ table_of Every F) × ((year_of F).person ≡ table_of Person F)
+      answer_number (year_of F) ≡ 0 → year_of F ≡ Ok (record { every = table_of Every F; person = table_of Person F })
 
 -- ---- a line
 
 -- 02, W4: exactly 0, and exactly 1
-abbrev pub exactly : ℕ → Share
-exactly n = Rate (fin false n (pos 0))
+abbrev pub exactly : ℕ → Option Float
+exactly n = Some (fin false n (pos 0))
 
 -- 02, W4: s is the share of n findings of which d were dismissed. A month with no finding has no rate; any other has
 -- the quotient rounded once, and no 64-bit float is nearer to it; it is exactly 0 or 1 when none or all were dismissed,
 -- and only then; its bits are what the program prints
-pub record Shared (n d : ℕ) (s : Share) : Type 0 where
-  pub none : (s ≡ Nothing) ↔ (n ≡ 0)
-  pub rounded : 0 < n → s ≡ Rate (round binary64 false d n)
+pub record Shared (n d : ℕ) (s : Option Float) : Type 0 where
+  pub none : (s ≡ None) ↔ (n ≡ 0)
+  pub rounded : 0 < n → s ≡ Some (round binary64 false d n)
   pub nearest : 0 < n → Nearest d n (round binary64 false d n)
   pub zero : 0 < n → (s ≡ exactly 0) ↔ (d ≡ 0)
   pub one : 0 < n → (s ≡ exactly 1) ↔ (d ≡ n)
@@ -90,9 +89,9 @@ pub record TwoMonths (L : List Line) : Type 0 where
 -- when fewer than two months have one. With r of R dismissed later and l of L up to a month, the comparison is that of
 -- r / R - l / L, brought to one denominator, each subtracted term on the other side
 pub record BendFound (L : List Line) : Type 0 where
-  pub after : (m : ℕ) → (bend_of L ≡ After (m + 1)) ↔ Bent L m
-  pub none : (bend_of L ≡ NoBend) ↔ ((m : ℕ) → m < month_count → both_sides (sides_at L m) ≡ false)
-  pub two : (bend_of L ≢ NoBend) ↔ TwoMonths L
+  pub after : (m : ℕ) → (bend_of L ≡ Some (m + 1)) ↔ Bent L m
+  pub none : (bend_of L ≡ None) ↔ ((m : ℕ) → m < month_count → both_sides (sides_at L m) ≡ false)
+  pub two : (bend_of L ≢ None) ↔ TwoMonths L
   pub compared :
       (k m : ℕ) → k < month_count → m < month_count →
       let s = sides_at L k in

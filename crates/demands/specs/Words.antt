@@ -1,13 +1,14 @@
 -- One answer, and no second (01, "What the reviewer must be able to rely on": any second answer meeting the same words
 -- is proved equal): the words of the public functions that answer with more than a number or write into what they are
 -- lent, over plain lists and numbers, and what it is to have one answer. proofs/Second.antt has it of each function.
-use Rattle.std.specs.Prelude.{ℕ, ◌≡◌, Bool, List, Float}
+use Rattle.std.specs.Prelude.{ℕ, ◌≡◌, Bool, List, Float, Result}
 use Rattle.std.proofs.lemmas.List.Edits.{sets}
+use Rattle.casefile.specs.Bodies.{body_g, body_i, body_b, body_o, body_t, body_in}
 use Rattle.block.specs.State.{enters_from}
 use Rattle.report.specs.Lines.{Printed}
-use Rattle.evaluator.specs.declared.Answer.{Answer}
+use Rattle.evaluator.specs.declared.Refusal.{Refusal}
 use Rattle.evaluator.specs.Answer.{Lent, cycle_of}
-use Rattle.evaluator.specs.Fresh.{sizes_of, sizes_number, fresh_number, fresh_left}
+use Rattle.evaluator.specs.Fresh.{sizes_of, sizes_number, fresh_left}
 use Rattle.evaluator.specs.Steps.{step_answer, step_state, step_findings}
 use Rattle.hagglethwait.specs.Calls.{state_said, outputs_said, findings_said}
 use Rattle.hagglethwait.specs.Ledgers.{findings_left, dismissed_left, rates_left, bends_left}
@@ -30,21 +31,33 @@ abbrev pub LineWords : List ℕ → List ℕ → record { answer : ℕ; bytes : 
 LineWords line old x = Printed line old x.bytes x.answer
 
 -- 01, "Turned down": `evaluator::cycle`, and the call for C, which tells the answer as a number
-pub record CycleWords {N : Type 0} (tells : Answer → N) (F R : List ℕ) (L : Lent)
+pub record CycleWords {N : Type 0} (tells : Result ℕ Refusal → N) (F R : List ℕ) (L : Lent)
     (x : record { answer : N; lent : Lent }) : Type 0 where
   pub answered : x.answer ≡ tells (cycle_of F R L).answer
   pub left : x.lent.state ≡ (cycle_of F R L).lent.state
   pub shown : x.lent.outputs ≡ (cycle_of F R L).lent.outputs
   pub told : x.lent.findings ≡ (cycle_of F R L).lent.findings
 
--- 01, "Block state", Fresh: `evaluator::fresh`, and the call for C, into a buffer whose bytes were `old`
-pub record FreshWords (F old : List ℕ) (x : record { answer : ℕ; bytes : List ℕ }) : Type 0 where
-  pub answered : x.answer ≡ fresh_number F old
+-- 01, "Block state", Fresh: `evaluator::fresh`, which answers `fresh_verdict`, and the call for C, which answers
+-- `fresh_number`, into a buffer whose bytes were `old`
+pub record FreshWords {N : Type 0} (answer : List ℕ → List ℕ → N) (F old : List ℕ)
+    (x : record { answer : N; bytes : List ℕ }) : Type 0 where
+  pub answered : x.answer ≡ answer F old
   pub left : x.bytes ≡ fresh_left F old
+
+-- 01, "The case file": `casefile::Bodies::of`, which hands out the bodies of the file F
+pub record BodiesWords (F : List ℕ)
+    (x : record { groups : List ℕ; inputs : List ℕ; blocks : List ℕ; outputs : List ℕ; trace : List ℕ })
+    : Type 0 where
+  pub groups : x.groups ≡ body_in F body_g
+  pub inputs : x.inputs ≡ body_in F body_i
+  pub blocks : x.blocks ≡ body_in F body_b
+  pub outputs : x.outputs ≡ body_in F body_o
+  pub trace : x.trace ≡ body_in F body_t
 
 -- 01, "The trace program": `evaluator::unchecked::step`, a cycle inside a trace
 pub record StepWords (G I B R S D : List ℕ)
-    (x : record { answer : Answer; state : List ℕ; findings : List ℕ }) : Type 0 where
+    (x : record { answer : Result ℕ Refusal; state : List ℕ; findings : List ℕ }) : Type 0 where
   pub answered : x.answer ≡ step_answer G I B R S
   pub left : x.state ≡ step_state G I B R S
   pub told : x.findings ≡ step_findings G I B R S D

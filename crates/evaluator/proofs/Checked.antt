@@ -20,8 +20,8 @@ use Rattle.casefile.proofs.Execution.{block_at_is, block_at_lt}
 use Rattle.block.specs.Finding.{finding_size}
 use Rattle.block.specs.State.{state_size}
 use Rattle.block.specs.Formed.{well_formed}
-use Rattle.evaluator.specs.Asks.{Standing, Due, Ranked, Running, order_list, error_list, group_with, Grouped}
-use Rattle.evaluator.specs.Asks.{Admitted, Begun, Decided, Noted, Ordered, Ready, Showing, enters_with}
+use Rattle.evaluator.specs.Asks.{Standing, Due, Ranked, Running, order_list, group_with, Grouped}
+use Rattle.evaluator.specs.Asks.{Admitted, Begun, Decided, Noted, Ordered, Ready, enters_with}
 use Rattle.evaluator.specs.Asks.{is_noted}
 use Rattle.evaluator.specs.Asks.{note_in, output_shown, ran_with, slot_with}
 use Rattle.evaluator.specs.State.{cell, cell_formed, findings_length, group_byte, group_formed, head_formed}
@@ -247,43 +247,19 @@ module _ {c : Counts} {G B W R S O D : List ℕ} (m : Admitted c G B W R S O D) 
   pub in_place : (T : List ℕ) → length T ≡ state_length G B → Standing B T c.groups
   in_place T e = standing m.sound m.groups m.blocks T e
 
-  pub in_groups : Grouped B c.blocks
-  in_groups = grouped m.sound m.groups m.blocks
+  pub in_order : Ordered B (block_count B)
+  in_order = ordered m.sound m.groups refl
 
-  pub in_order : Ordered B c.blocks
-  in_order = ordered m.sound m.groups m.blocks
-
-  -- where the findings are cleared
-  pub ready : (K E D1 : List ℕ) → K ≡ order_list B → E ≡ error_list c.groups B S →
-      D1 ≡ replicate (length D) 0 → Ready c G B K E R S D1
-  ready K E D1 k e d = record {
-    inputs = m.inputs;
-    begun = record {
-      sound = m.sound;
-      groups = m.groups;
-      blocks = m.blocks;
-      order = k;
-      errors = e ∙ ap (λ (h : ℕ). error_list h B S) m.groups;
-      size = m.state;
-      formed = m.formed;
-      clean = d ∙ ap (λ (n : ℕ). replicate n 0) m.findings;
-    };
-    given = m.given;
-  }
-
-  pub outputs_fit : Showing B W c.outputs
-  outputs_fit = record { count = m.rows; shown = m.shown }
-
-  pub outputs_long : length O ≡ word_size * c.outputs
+  pub outputs_long : length O ≡ word_size * output_count W
   unfolding outputs_length
-  outputs_long = m.outputs ∙ ap (λ (k : ℕ). word_size * k) (sym m.rows)
+  outputs_long = m.outputs
 
   -- the words that the new state shows are those of the cycle
   pub shown_new : (T P : List ℕ) → T ≡ new_state G B R S →
-      P ≡ gather c.outputs (λ o. bytes4 (output_shown c.groups B W T o)) → P ≡ new_outputs G B W R S
+      P ≡ gather (output_count W) (λ o. bytes4 (output_shown c.groups B W T o)) → P ≡ new_outputs G B W R S
   unfolding new_outputs output_word output_shown
   shown_new T P t p =
-      p ∙ (λ i. gather (m.rows i) (λ o. bytes4 (output_shown (m.groups i) B W (t i) o)))
+      p ∙ (λ i. gather (output_count W) (λ o. bytes4 (output_shown (m.groups i) B W (t i) o)))
       ∙ gather_same (output_count W) (λ o. bytes4 (output_shown (group_count G) B W (new_state G B R S) o))
       (λ o. bytes4 (output_word G B W R S o))
       (λ o q.

@@ -1,11 +1,18 @@
 -- What the code's tests of a cycle call's arguments say by the definitions, and what the counts of an accepted file's
 -- bodies are. Assumes nothing.
-use Rattle.wire.proofs.Usual.{◌≡◌, ap, ap₂, ◌∙◌, Bool, ◌&&◌, List, ℕ, ◌+◌, ◌*◌, ◌≤◌, arith, length, take}
-use Rattle.wire.proofs.Usual.{drop, eqb}
+use Rattle.wire.proofs.Usual.{◌≡◌, ap, ap₂, ◌∙◌, subst, Bool, ◌&&◌, List, [], ℕ, ◌+◌, ◌*◌, ◌/◌, ◌≤◌, arith, length}
+use Rattle.wire.proofs.Usual.{take, drop, eqb, length-take-le, length-drop}
+use Rattle.std.specs.List.{list_all, zip}
+use lib.ListN.{get_or}
+use lib.Seq.{get_or-take, get_or-drop, drop-drop}
 use Rattle.wire.specs.Words.{le32}
+use Rattle.wire.specs.Places.{all}
+use Rattle.wire.proofs.Iterating.{all_pairs, rows, row_in, length-rows}
 use Rattle.wire.proofs.Records.{word_within}
 use Rattle.project.specs.declared.Counts.{Counts}
-use Rattle.project.specs.Project.{Project, row_of, group_count, input_size, input_count, input_type_in, block_size}
+use Rattle.kind.specs.Devices.{control_rule}
+use Rattle.project.specs.Project.{device, run_linked}
+use Rattle.project.specs.Project.{Project, row_of, group_count, input_size, input_count, input_type_in, block_record}
 use Rattle.project.specs.Project.{block_count, kind_in, parameters_in, head_size, word_size, record_size, size_counted}
 use Rattle.project.specs.Project.{output_count, counts_in}
 use Rattle.casefile.specs.Sound.{Sound, Shown}
@@ -16,11 +23,11 @@ use Rattle.block.specs.State.{state_size}
 use Rattle.block.specs.Formed.{well_formed}
 use Rattle.block.specs.Shows.{word_ok}
 use Rattle.block.specs.Finding.{finding_size}
-use Rattle.evaluator.specs.State.{state_head, state_length, outputs_length, findings_length, cell_formed}
+use Rattle.wire.specs.Records.{slot}
+use Rattle.evaluator.specs.State.{state_head, state_length, outputs_length, findings_length, cell, cell_formed}
 use Rattle.evaluator.specs.Groups.{input_word}
-use Rattle.evaluator.specs.Answer.{Lent, input_fits, sizes_ok}
+use Rattle.evaluator.specs.Answer.{Lent, control_ok, input_fits, sizes_ok}
 use Rattle.evaluator.specs.Asks.{Few, Listed, Whole}
-use Rattle.evaluator.proofs.Reading.{record_is, cell_is}
 
 -- ---- an accepted project
 
@@ -103,23 +110,52 @@ module _ {P : Project} {c : Counts} (e : c ≡ counts_in P) (t : Taken P) where
 
 -- ---- 11
 
--- block b's test, from its record Q, its kind k, parameters P and bytes T
-pub block_is : (B S : List ℕ) (h b : ℕ) (Q P T : List ℕ) (k : ℕ) (x : Bool) →
-    Q ≡ take block_size (drop (block_size * b) B) → T ≡ take state_size (drop (state_head h + state_size * b) S) →
-    k ≡ kind_in Q → P ≡ parameters_in Q → x ≡ well_formed k P T → x ≡ cell_formed h B S b
-unfolding cell_formed
-block_is B S h b Q P T k x q t u v w =
-    let here = q ∙ record_is B b in
-    w ∙ (λ i. well_formed ((u ∙ ap kind_in here) i) ((v ∙ ap parameters_in here) i) ((t ∙ cell_is h S b) i))
+-- block b's test, from its record Q, where its bytes T start in the state, its kind k and its parameters P
+pub block_is : (h : ℕ) (B S : List ℕ) (b : ℕ) {Q P T : List ℕ} {at k : ℕ} {x : Bool} → Q ≡ block_record B b →
+    at ≡ state_head h + state_size * b → T ≡ take state_size (drop at S) → k ≡ kind_in Q → P ≡ parameters_in Q →
+    x ≡ well_formed k P T → x ≡ cell_formed h B S b
+unfolding cell_formed cell slot
+block_is h B S b q p t u v w =
+    w
+    ∙ (λ i. well_formed ((u ∙ ap kind_in q) i) ((v ∙ ap parameters_in q) i)
+    ((t ∙ ap (λ (y : ℕ). take state_size (drop y S)) p) i))
 
 -- ---- 12
 
--- input i's test, from its record Q, its type t, its word's bytes W and its word w
-pub input_is : (I R Q W : List ℕ) (h i t w : ℕ) (x : Bool) → Q ≡ take input_size (drop (input_size * i) I) →
-    t ≡ input_type_in Q → W ≡ take word_size (drop (head_size + h + word_size * i) R) → w ≡ le32 W 0 →
-    x ≡ word_ok t w → x ≡ input_fits h I R i
+-- each group's test, over the groups' bytes and those of the record side by side
+abbrev pub control_test : ℕ → ℕ × ℕ → Bool
+control_test d (linked, v) = control_rule d linked v
+
+pub controls_are : (G R : List ℕ) (n : ℕ) {C : List ℕ} → n ≡ group_count G → C ≡ drop head_size R →
+    head_size + n ≤ length R →
+    list_all (control_test (device G)) (zip (take n (drop 1 G)) C) ≡ all (control_ok G R) (group_count G)
+unfolding control_ok run_linked group_count
+controls_are G R n {C} e q l =
+    subst (λ (m : ℕ). list_all (control_test (device G)) (zip (take n (drop 1 G)) C) ≡ all (control_ok G R) m) e
+    (all_pairs (control_ok G R) (control_test (device G)) (0, 0) n (take n (drop 1 G)) C
+    (length-take-le n (drop 1 G) (simp length-drop (omega (arith, e))))
+    (rw q (simp length-drop (omega (arith, l))))
+    (λ j k. ap₂ (control_rule (device G)) (get_or-take n (drop 1 G) j 0 k ∙ get_or-drop 1 G j 0)
+    (ap (λ (y : List ℕ). get_or y j 0) q ∙ get_or-drop head_size R j 0)))
+
+-- each input's test, over the inputs' records and the words of the record side by side
+abbrev pub word_test : List ℕ × List ℕ → Bool
+word_test (r, w) = word_ok (input_type_in r) (le32 w 0)
+
+pub words_are : (h : ℕ) (I R : List ℕ) {W : List ℕ} → W ≡ drop (head_size + h) R →
+    head_size + h + word_size * input_count I ≤ length R →
+    list_all word_test (zip (rows input_size (input_count I) I) (rows word_size (length W / word_size) W))
+    ≡ all (input_fits h I R) (input_count I)
 unfolding input_fits input_word row_of
-input_is I R Q W h i t w x q s u v r =
-    r
-    ∙ ap₂ word_ok (s ∙ ap input_type_in q)
-    (v ∙ ap (λ (y : List ℕ). le32 y 0) u ∙ word_within (head_size + h + word_size * i) R)
+words_are h I R {W} e l =
+    let n = input_count I in
+    let m = length W / word_size in
+    let long : word_size * n ≤ length W = rw e (simp length-drop (omega (arith, l))) in
+    let enough : n ≤ m = omega (arith, long) in
+    all_pairs (input_fits h I R) word_test ([], []) n (rows input_size n I) (rows word_size m W)
+    (length-rows input_size n I) (omega (arith, length-rows word_size m W, enough))
+    (λ j k. ap₂ word_ok (ap input_type_in (row_in input_size n I j [] k))
+    (ap (λ (y : List ℕ). le32 y 0) (row_in word_size m W j [] (omega (arith, k, enough))
+    ∙ ap (λ (y : List ℕ). take word_size (drop (word_size * j) y)) e
+    ∙ ap (take word_size) (drop-drop (word_size * j) (head_size + h) R))
+    ∙ word_within (head_size + h + word_size * j) R))

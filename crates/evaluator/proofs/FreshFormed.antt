@@ -1,24 +1,27 @@
 -- The fresh state: its length, and that it is well formed where the file is accepted, which is the first half of what
 -- 01, "What the reviewer must be able to rely on", asks of states. Assumes nothing.
-use Rattle.wire.proofs.Usual.{◌≡◌, refl, sym, ap, ap₂, ◌∙◌, Bool, true, ◌&&◌, ◌≢◌, List, [], ◌∷◌, ℕ, ◌+◌}
-use Rattle.wire.proofs.Usual.{◌<◌, arith, eq-eqb, ne_eqb, eqb, length, replicate, length-append, length-replicate}
+use Rattle.wire.proofs.Usual.{◌≡◌, refl, sym, ap, ap₂, ◌∙◌, Bool, true, false, cond, ◌&&◌, List, [], ◌∷◌, ℕ, ◌+◌}
+use Rattle.wire.proofs.Usual.{◌<◌, arith, ne_eqb, eqb, length, replicate, length-append, length-replicate}
+use Rattle.std.specs.Prelude.{Result, Ok, Err}
 use lib.ListN.{get_or-append, get_or-replicate}
 use Rattle.wire.specs.Records.{gather}
 use Rattle.wire.specs.Tables.{row, first}
 use Rattle.wire.proofs.Places.{all_true}
 use Rattle.wire.proofs.Records.{length-gather, slot-gather}
-use Rattle.wire.proofs.Tables.{first_zero, first_kept, first_broken}
 use Rattle.project.specs.Project.{Project, group_count, block_count, kind_of, parameters_of}
 use Rattle.casefile.specs.Sound.{Sound}
 use Rattle.casefile.specs.Bodies.{project_of}
-use Rattle.casefile.specs.Refusal.{file_table}
-use Rattle.casefile.proofs.Refusals.{file_numbered}
+use Rattle.casefile.specs.Refusal.{verdict}
 use Rattle.block.specs.State.{state_size, fresh_bytes, encode}
 use Rattle.block.specs.Formed.{well_formed}
 use Rattle.block.proofs.Kept.{fresh_formed}
 use Rattle.evaluator.specs.State.{groups_at, state_head, group_byte, cell, state_length, group_formed, head_formed}
 use Rattle.evaluator.specs.State.{cell_formed, state_formed}
-use Rattle.evaluator.specs.Fresh.{fresh_for, fresh_table, fresh_number, fresh_left}
+use Rattle.evaluator.specs.declared.Refusal.{Refusal}
+use Rattle.evaluator.specs.declared.Refusal.TheVariants.{Sizes as WrongSize}
+use Rattle.evaluator.specs.Answer.{refusal_number, number_in}
+use Rattle.evaluator.specs.Fresh.{fresh_for, fresh_table, fresh_number, fresh_verdict, fresh_left}
+use Rattle.evaluator.proofs.Calls.{refusal_some, checked_number}
 
 -- a block's fresh bytes
 pub fresh_long : length fresh_bytes ≡ state_size
@@ -71,35 +74,33 @@ module _ (P : Project) where
 -- ---- what `fresh` answers and leaves
 
 module _ (F S : List ℕ) where
-  fresh_not : (n : ℕ) → n ≢ 0 → n ≡ fresh_number F S → (n ≡ fresh_number F S) × (S ≡ fresh_left F S)
+  abbrev sized : Bool
+  sized = eqb (length S) (state_length (project_of F).groups (project_of F).blocks)
+
+  abbrev sized_then : Bool → Result (Unit {0}) Refusal
+  sized_then t = cond t (Ok tt) (Err WrongSize)
+
+  -- the number of the answer
+  pub fresh_number_is : number_in (fresh_verdict F S) ≡ fresh_number F S
+  unfolding fresh_verdict fresh_number fresh_table first
+  fresh_number_is = checked_number F (sized_then sized) (row 10 sized ∷ []) (go sized)
+    where
+      go : (t : Bool) → number_in (sized_then t) ≡ first (row 10 t ∷ [])
+      go true = refl
+      go false = refl
+
+  -- of an accepted file it is by the buffer's length
+  pub verdict_sized : verdict F ≡ Ok tt → {t : Bool} → sized ≡ t → sized_then t ≡ fresh_verdict F S
+  unfolding fresh_verdict
+  verdict_sized z {t} e = rw (z, e)
+
+  -- accepted, the fresh state is left, and else what was lent
+  pub left_fresh : fresh_verdict F S ≡ Ok tt → fresh_for (project_of F) ≡ fresh_left F S
   unfolding fresh_left
-  fresh_not n h e = (e, rw (← e, ne_eqb n 0 h))
+  left_fresh e = let z : fresh_number F S ≡ 0 = sym fresh_number_is ∙ ap number_in e in rw z
 
-  -- the file is turned down
-  pub fresh_refused : (n : ℕ) → n ≡ first (file_table F) → n ≢ 0 →
-      (n ≡ fresh_number F S) × (S ≡ fresh_left F S)
-  unfolding fresh_number fresh_table
-  fresh_refused n e h = fresh_not n h (e ∙ sym (first_broken (file_table F) _ (λ z. h (e ∙ z))))
-
-  module _ (z : first (file_table F) ≡ 0) (long : ℕ)
-      (sized : long ≡ state_length (project_of F).groups (project_of F).blocks) where
-    number_by : (t : Bool) → eqb (length S) (state_length (project_of F).groups (project_of F).blocks) ≡ t →
-        fresh_number F S ≡ first (row 10 t ∷ [])
-    unfolding fresh_number fresh_table
-    number_by t e =
-        first_kept (file_table F) _ ((first_zero (file_table F) (file_numbered F)).0 z)
-        ∙ ap (λ (b : Bool). first (row 10 b ∷ [])) e
-
-    -- the buffer is not of the exact size
-    pub fresh_unsized : length S ≢ long → (10 ≡ fresh_number F S) × (S ≡ fresh_left F S)
-    unfolding first
-    fresh_unsized h =
-        fresh_not 10 (λ z. omega arith) (sym (number_by _ (ne_eqb (length S) _ (λ q. h (q ∙ sym sized)))))
-
-    -- it is
-    pub fresh_done : (X : List ℕ) → length S ≡ long → X ≡ fresh_for (project_of F) →
-        (0 ≡ fresh_number F S) × (X ≡ fresh_left F S)
-    unfolding first fresh_left
-    fresh_done X h e =
-        let answer : 0 ≡ fresh_number F S = sym (number_by _ (eq-eqb (length S) _ (h ∙ sized))) in
-        (answer, e ∙ rw (← answer))
+  pub left_old : (r : Refusal) → fresh_verdict F S ≡ Err r → S ≡ fresh_left F S
+  unfolding fresh_left
+  left_old r e =
+      let n : refusal_number r ≡ fresh_number F S = sym (ap number_in e) ∙ fresh_number_is in
+      rw (ne_eqb (fresh_number F S) 0 (λ z. omega (arith, z, n, refusal_some r)))

@@ -3,6 +3,7 @@
 use Rattle.wire.proofs.Usual.{◌≡◌, refl, sym, ap, ap₂, ◌∙◌, subst, Bool, true, false, cond, ◌≢◌, List, ◌++◌}
 use Rattle.wire.proofs.Usual.{ℕ, ◌+◌, ◌*◌, ◌≤◌, ◌<◌, zero-add, ℕ_discrete, arith, length, take, replicate}
 use Rattle.wire.proofs.Usual.{length-replicate, sets}
+use Rattle.std.specs.Prelude.{Some}
 use lib.ListN.{get_or-replicate}
 use lib.Seq.{ext_get_or}
 use Rattle.wire.specs.Words.{byte_at}
@@ -117,7 +118,7 @@ module _ (h : ℕ) (B R H K S₀ D₀ : List ℕ) (n : ℕ) (r : Running h B R H
     unfolding ran_with ran
     here a q = sym (cell-slot S a) ∙ k.cells.cells a (rw r.count q)
 
-    linked : (p a q : ℕ) → (net h B R (byte_at H)).wires.link b p ≡ Output a q → a < block_count B
+    linked : (p a q : ℕ) → (net h B R (byte_at H)).wires.link b p ≡ Some (Output a q) → a < block_count B
     unfolding net wires
     linked p a q g = ((r.due b l).linked.links p).output a q g
 

@@ -3,25 +3,25 @@
 use Rattle.wire.proofs.Usual.{◌≡◌, refl, sym, ◌∙◌, subst, Bool, true, false, List, ℕ, ◌-◌, ◌*◌, ◌≤◌}
 use Rattle.wire.proofs.Usual.{arith, eq-eqb, length, replicate, length-append, length-replicate}
 use native.Mathlib.Nat.{mul-le-mul_left}
+use Rattle.std.specs.Prelude.{Ok}
 use Rattle.wire.specs.Words.{bytes4}
-use Rattle.wire.specs.Tables.{first}
 use Rattle.wire.proofs.Records.{length-gather}
 use Rattle.wire.proofs.Packing.{hits_most, entries-length}
 use Rattle.project.specs.Project.{Project, block_count, word_size, output_count}
 use Rattle.casefile.specs.Bodies.{project_of}
-use Rattle.casefile.specs.Refusal.{file_table}
-use Rattle.casefile.proofs.Refusals.{number_zero}
+use Rattle.casefile.specs.Refusal.{verdict}
 use Rattle.casefile.proofs.Accepted.{accepted}
 use Rattle.block.specs.Finding.{finding_size}
 use Rattle.evaluator.specs.State.{state_length, outputs_length, findings_length, state_formed}
+use Rattle.evaluator.specs.declared.Refusal.TheVariants.{Record}
 use Rattle.wire.specs.Packed.{entries, packed}
 use Rattle.evaluator.specs.Cycle.{new_outputs, new_findings, enters, finding, output_word}
-use Rattle.evaluator.specs.Answer.{record_ok, Lent, Left, sizes_ok, call_rows, refusal, leaves, cycle_of}
+use Rattle.evaluator.specs.Answer.{record_ok, Lent, Left, sizes_ok, call_tested, call_verdict, leaves, cycle_of}
 use Rattle.evaluator.specs.Steps.{step_answer, step_state, step_findings}
 use Rattle.evaluator.proofs.Running.{found_length}
 use Rattle.evaluator.proofs.Checking.{Taken, taken}
 use Rattle.evaluator.proofs.Checked.{new_long, new_formed}
-use Rattle.evaluator.proofs.Calls.{rows_12, rows_none, refused_rows, call_refused, call_done}
+use Rattle.evaluator.proofs.Calls.{tested_record, tested_none, verdict_tested, call_refused, call_done}
 
 -- ---- how long what a cycle leaves is
 
@@ -64,7 +64,7 @@ pub record Stepped (P : Project) (R : List ℕ) (L : Lent) (l : Left) : Type 0 w
   pub sizes : sizes_ok P l.lent ≡ true
   pub formed : state_formed P.groups P.blocks l.lent.state ≡ true
 
-pub stepped : (F R : List ℕ) (L : Lent) → first (file_table F) ≡ 0 → sizes_ok (project_of F) L ≡ true →
+pub stepped : (F R : List ℕ) (L : Lent) → verdict F ≡ Ok tt → sizes_ok (project_of F) L ≡ true →
     state_formed (project_of F).groups (project_of F).blocks L.state ≡ true →
     Stepped (project_of F) R L (cycle_of F R L)
 unfolding step_answer step_state step_findings
@@ -74,27 +74,27 @@ stepped F R L z sizes formed = go (record_ok P.groups P.inputs R) refl
     P = project_of F
 
     t : Taken P
-    t = taken F (accepted F (number_zero F z))
+    t = taken F (accepted F z)
 
-    rows : refusal F R L ≡ first (call_rows P R L)
-    rows = sym (refused_rows F R L z P refl)
+    tested : call_tested P R L ≡ call_verdict F R L
+    tested = verdict_tested F R L z P refl
 
     go : (b : Bool) → record_ok P.groups P.inputs R ≡ b → Stepped P R L (cycle_of F R L)
     go true e =
-        subst (Stepped P R L) (sym (call_done F R L (rows ∙ rows_none P R L sizes formed e)))
+        subst (Stepped P R L) (sym (call_done F R L (sym tested ∙ sym (tested_none P R L sizes formed e))))
         (record {
           answer = rw e;
           state = rw e;
           findings = rw e;
           sizes =
-              sizes_are P (leaves 0 P R L).lent (new_long P.groups P.blocks R L.state t.sound)
+              sizes_are P (leaves (Ok tt) P R L).lent (new_long P.groups P.blocks R L.state t.sound)
               (outputs_long P.groups P.blocks R L.state P.outputs)
               (findings_long P.groups P.blocks R L.state);
           formed = new_formed P.groups P.blocks R L.state t.sound formed;
         })
     go false e =
         subst (Stepped P R L)
-        (sym (call_refused F R L 12 (rows ∙ rows_12 P R L sizes formed e) (λ x. omega (arith, x))))
+        (sym (call_refused F R L Record (sym tested ∙ sym (tested_record P R L sizes formed e))))
         (record {
           answer = rw e;
           state = rw e;

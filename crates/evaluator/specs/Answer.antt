@@ -1,19 +1,20 @@
 -- What a cycle call answers and leaves in the buffers lent to it (01, "Turned down: numbers and order"). G, I, B and O
 -- are the bodies of the groups, the inputs, the blocks and the outputs, h is how many groups there are, R the record, P
 -- the project, F the file.
-use Rattle.std.specs.Prelude.{ℕ, zero, suc, Bool, ◌&&◌, List, [], ◌∷◌, ◌++◌, eqb, leb, length}
+use Rattle.std.specs.Prelude.{ℕ, Bool, ◌&&◌, cond, List, [], ◌∷◌, ◌++◌, eqb, leb, length, Result, Ok, Err}
 use Rattle.wire.specs.Places.{all}
 use Rattle.wire.specs.Tables.{Row, row, first}
 use Rattle.kind.specs.Devices.{control_rule}
 use Rattle.project.specs.Project.{Project, device, group_count, run_linked, input_count, input_type, record_size}
 use Rattle.casefile.specs.Bodies.{project_of}
-use Rattle.casefile.specs.Refusal.{file_table}
+use Rattle.casefile.specs.declared.table.Rule.{Rule}
+use Rattle.casefile.specs.Refusal.{file_table, verdict, refusal_of}
 use Rattle.block.specs.Shows.{word_ok}
 use Rattle.evaluator.specs.State.{state_length, outputs_length, findings_length, state_formed}
 use Rattle.evaluator.specs.Groups.{elapsed, control_byte, input_word}
 use Rattle.evaluator.specs.Cycle.{new_state, new_outputs, new_findings, finding_count}
-use Rattle.evaluator.specs.declared.Answer.{Answer}
-use Rattle.evaluator.specs.declared.Answer.TheVariants.{Findings, Refused}
+use Rattle.evaluator.specs.declared.Refusal.{Refusal}
+use Rattle.evaluator.specs.declared.Refusal.TheVariants.{File, Sizes, State, Record}
 
 -- ---- 12: the record
 
@@ -67,28 +68,49 @@ call_table F R L = file_table F ++ call_rows (project_of F) R L
 unfoldable pub refusal : List ℕ → List ℕ → Lent → ℕ
 refusal F R L = first (call_table F R L)
 
+-- 01, "Turned down": the number of a refusal, and that of an answer, 0 for accepted
+abbrev pub refusal_number : Refusal → ℕ
+refusal_number (File r) = refusal_of r
+refusal_number Sizes = 10
+refusal_number State = 11
+refusal_number Record = 12
+
+abbrev pub number_in : {A : Type 0} → Result A Refusal → ℕ
+number_in (Ok x) = 0
+number_in (Err r) = refusal_number r
+
+-- 01, "Turned down": the first of a call's rules that is not kept: one of the file's, and of an accepted file t
+abbrev pub checked_then : Result (Unit {0}) Rule → Result (Unit {0}) Refusal → Result (Unit {0}) Refusal
+checked_then (Ok u) t = t
+checked_then (Err r) t = Err (File r)
+
+abbrev pub call_tested : Project → List ℕ → Lent → Result (Unit {0}) Refusal
+call_tested P R L =
+    cond (sizes_ok P L)
+    (cond (state_formed P.groups P.blocks L.state) (cond (record_ok P.groups P.inputs R) (Ok tt) (Err Record))
+    (Err State))
+    (Err Sizes)
+
+unfoldable pub call_verdict : List ℕ → List ℕ → Lent → Result (Unit {0}) Refusal
+call_verdict F R L = checked_then (verdict F) (call_tested (project_of F) R L)
+
 -- what a call answers and leaves in the three buffers
 pub record Left : Type 0 where
-  pub answer : Answer
+  pub answer : Result ℕ Refusal
   pub lent : Lent
 
--- 01, "Turned down": accepted, it returns the count of findings; refused, it writes nothing and returns the number
-abbrev pub leaves : ℕ → Project → List ℕ → Lent → Left
-leaves zero P R L = record {
-  answer = Findings (finding_count P.groups P.blocks R L.state);
+-- 01, "Turned down": accepted, it returns the count of findings; refused, it writes nothing and returns the refusal
+abbrev pub leaves : Result (Unit {0}) Refusal → Project → List ℕ → Lent → Left
+leaves (Ok u) P R L = record {
+  answer = Ok (finding_count P.groups P.blocks R L.state);
   lent = record {
     state = new_state P.groups P.blocks R L.state;
     outputs = new_outputs P.groups P.blocks P.outputs R L.state;
     findings = new_findings P.groups P.blocks R L.state;
   };
 }
-leaves (suc n) P R L = record { answer = Refused (suc n); lent = L }
+leaves (Err r) P R L = record { answer = Err r; lent = L }
 
 -- a call over a file, by its project
 unfoldable pub cycle_of : List ℕ → List ℕ → Lent → Left
-cycle_of F R L = leaves (refusal F R L) (project_of F) R L
-
--- 01, "Turned down": the number that an answer stands for, 0 for accepted
-abbrev pub number_in : Answer → ℕ
-number_in (Findings n) = 0
-number_in (Refused k) = k
+cycle_of F R L = leaves (call_verdict F R L) (project_of F) R L

@@ -4,6 +4,7 @@
 use Rattle.std.specs.Prelude.{ℕ, ◌+◌, ◌*◌, ◌<◌, ◌≤◌, ◌≡◌, List, [], ◌∷◌, ◌≢◌, length, replicate, eqb, ltb, Bool, true}
 use Rattle.std.specs.Prelude.{false, cond}
 use Rattle.std.proofs.lemmas.List.Edits.{sets}
+use Rattle.std.specs.Prelude.{Option, Some}
 use Rattle.wire.specs.Words.{byte_at}
 use Rattle.wire.specs.Records.{gather}
 use Rattle.kind.specs.Devices.{is_err_ack}
@@ -13,13 +14,12 @@ use Rattle.project.specs.declared.Counts.{Counts}
 use Rattle.project.specs.Project.{row_of, device, group_count, input_size, input_count, block_size, block_count}
 use Rattle.project.specs.Project.{block_record}
 use Rattle.project.specs.Project.{group_of, order_of, link_in, block_at, output_count, output_block, output_port}
-use Rattle.project.specs.Project.{head_size}
-use Rattle.project.specs.Project.{word_size, record_size}
+use Rattle.project.specs.Project.{head_size, word_size, record_size}
 use Rattle.casefile.specs.Sound.{Sound, Shown}
 use Rattle.block.specs.State.{only_if, state_size, enters_from}
 use Rattle.block.specs.Step.{asks_inputs}
 use Rattle.block.specs.Finding.{finding_size, is_finding}
-use Rattle.evaluator.specs.Net.{reads, words, seen}
+use Rattle.evaluator.specs.Net.{words, seen}
 use Rattle.evaluator.specs.State.{state_head, cell, state_length, outputs_length, findings_length, state_formed}
 use Rattle.evaluator.specs.Groups.{control_byte, has_error, group_from, phase_of}
 use Rattle.evaluator.specs.Cycle.{wires, port_shows, turned_from, ran, finding_for}
@@ -33,14 +33,14 @@ pub record Standing (B S : List ℕ) (h : ℕ) : Type 0 where
   pub few : h ≤ 8
   pub state : length S ≡ state_head h + state_size * block_count B
 
--- block b's bytes are there
-abbrev pub Within : ℕ → ℕ → List ℕ → Type 0
-Within h b S = (b < 64) × ((h ≤ 8) × (state_head h + state_size * b + state_size ≤ length S))
+-- 01, "Turned down", Sizes: the state S has its size
+abbrev pub Sized : ℕ → List ℕ → List ℕ → Type 0
+Sized h B S = length S ≡ state_head h + state_size * block_count B
 
 -- 01, "Turned down", 7 and 12: what a link names is there, in the record R and in B
-pub record Named (h : ℕ) (B R : List ℕ) (s : Source) : Type 0 where
-  pub external : (i : ℕ) → s ≡ External i → head_size + h + word_size * i + word_size ≤ length R
-  pub output : (a q : ℕ) → s ≡ Output a q → a < block_count B
+pub record Named (h : ℕ) (B R : List ℕ) (s : Option Source) : Type 0 where
+  pub external : (i : ℕ) → s ≡ Some (External i) → head_size + h + word_size * i + word_size ≤ length R
+  pub output : (a q : ℕ) → s ≡ Some (Output a q) → a < block_count B
 
 -- 01, "Turned down", 7 and 12: so is what the links of the block with the record Q name, and the groups' bytes are in R
 pub record Linked (h : ℕ) (B R Q : List ℕ) : Type 0 where
@@ -55,19 +55,14 @@ pub record Due (h : ℕ) (B R H : List ℕ) (b : ℕ) : Type 0 where
   pub linked : Linked h B R (block_record B b)
   pub phases : length H ≡ 8
 
--- 01, "One cycle": Q is the record of block b, which asks for its inputs in the phase ph
-pub record Turning (h : ℕ) (B R S Q : List ℕ) (b ph : ℕ) : Type 0 where
-  pub here : Q ≡ block_record B b
+-- 01, "One cycle": block b asks for its inputs in the phase ph
+pub record Turning (h : ℕ) (B R S : List ℕ) (b ph : ℕ) : Type 0 where
   pub inside : b < block_count B
   pub asks : asks_inputs ph (is_err_ack (control_byte R (group_of B b))) (cell h S b) ≡ true
 
 -- ---- a turn
 
--- 01, "One cycle": what the input ports of the block with the record Q read, where each block is as the state S has it
-abbrev pub words_of : ℕ → List ℕ → List ℕ → List ℕ → List ℕ → ℕ → ℕ
-words_of h B R S Q p = reads (wires h B R) (cell h S) (link_in Q p)
-
--- the same of block b
+-- 01, "One cycle": what the input ports of block b read, where each block is as the state S has it
 abbrev pub words_at : ℕ → List ℕ → List ℕ → List ℕ → ℕ → ℕ → ℕ
 words_at h B R S b = words (wires h B R) (cell h S) b
 
@@ -88,6 +83,13 @@ unfoldable pub noted : ℕ → List ℕ → List ℕ → ℕ → List ℕ → �
 noted h B R ph S b D =
     cond (entering h B R ph S b)
     (sets D (finding_size * b) (finding_for B b (words_at h B R S b) (turned h B R ph S b))) D
+
+-- 01, "One cycle" and "Finding": a turn of block b in the phase ph took the state from S to S' and the findings by
+-- block number from D to D', and answered whether the block entered 4
+pub record Took (h : ℕ) (B R : List ℕ) (ph : ℕ) (S S' D D' : List ℕ) (b : ℕ) (x : Bool) : Type 0 where
+  pub left : S' ≡ sets S (state_head h + state_size * b) (turned h B R ph S b)
+  pub told : D' ≡ noted h B R ph S b D
+  pub answered : x ≡ entering h B R ph S b
 
 -- ---- all turns
 
@@ -173,11 +175,6 @@ pub record Noted (D : List ℕ) (n : ℕ) : Type 0 where
   pub long : length D ≡ finding_size * n
   pub few : n ≤ 64
   pub empty : (b : ℕ) → b < n → is_noted D b ≡ false → note_in D b ≡ replicate finding_size 0
-
--- 01, "The case file" and "Turned down", 8: O has the records of m outputs, and each names a block that is there
-pub record Showing (B O : List ℕ) (m : ℕ) : Type 0 where
-  pub count : m ≡ output_count O
-  pub shown : Shown B O
 
 -- 01, "One cycle": what the port of external output o shows in the state S
 unfoldable pub output_shown : ℕ → List ℕ → List ℕ → List ℕ → ℕ → ℕ

@@ -3,6 +3,8 @@ ghost use Rattle.std.specs.Prelude.{◌≡◌};
 ghost use Rattle.evaluator.specs.Cycle.{new_state, new_outputs, new_findings, finding_count};
 ghost use Rattle.evaluator.specs.Asks.{Ready, Admitted};
 
+use crate::layout::Layout;
+use crate::turns::Turns;
 use project::Counts;
 
 // The groups decide, the blocks run, and the findings are packed in a buffer of zeros. Answers how many there are.
@@ -24,14 +26,21 @@ pub fn advance(
     ensures count { result ≡ finding_count groups.now blocks.now rec.now
         state.old }
 {
-    let h = c.groups;
-    let n = c.blocks;
-    let phases = crate::groups::decide(groups, h, rec, errors, state);
-    let some = crate::turns::take_turns(blocks, h, n, ranks, rec, &phases, state, findings);
-    if !some {
+    let phases = crate::groups::decide(groups, c.groups, rec, errors, state);
+    let layout = Layout {
+        blocks,
+        groups: c.groups,
+        count: c.blocks,
+    };
+    let turns = Turns {
+        layout,
+        rec,
+        phases: &phases,
+    };
+    if !turns.take(ranks, state, findings) {
         return 0;
     }
-    crate::findings::pack(findings, n)
+    crate::findings::pack(findings, c.blocks)
 }
 
 // A cycle with its outputs, of a call that was checked.
@@ -57,12 +66,15 @@ pub fn whole_cycle(
     ensures count { result ≡ finding_count groups.now blocks.now rec.now
         state.old }
 {
-    let h = c.groups;
-    let n = c.blocks;
     wire::clear(findings);
-    let order = crate::ranks::ranks(blocks, n);
-    let errors = crate::groups::error_groups(blocks, h, n, state);
+    let layout = Layout {
+        blocks,
+        groups: c.groups,
+        count: c.blocks,
+    };
+    let order = crate::ranks::ranks(blocks);
+    let errors = crate::groups::error_groups(&layout, state);
     let count = advance(c, groups, blocks, &order, &errors, rec, state, findings);
-    crate::outputs::write_outputs(blocks, rows, h, c.outputs, state, outputs);
+    crate::outputs::write_outputs(&layout, rows, state, outputs);
     count
 }

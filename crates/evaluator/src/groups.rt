@@ -3,28 +3,25 @@ ghost use Rattle.std.specs.Prelude.{◌≡◌, ◌∷◌, [], ◌++◌, ◌+◌,
 ghost use Rattle.wire.specs.Records.{gather};
 ghost use Rattle.evaluator.specs.State.{state_head, is_held, is_acknowledged};
 ghost use Rattle.evaluator.specs.Groups.{pends, group_next, phase_from, runs_with};
-ghost use Rattle.evaluator.specs.Asks.{Standing, error_list, Grouped, Decided, group_with};
+ghost use Rattle.evaluator.specs.Asks.{Sized, error_list, Grouped, Decided, group_with};
 
 use crate::GROUPS_AT;
-use crate::parts::part_at;
-use block::STATE_SIZE;
-use project::{BLOCK_SIZE, HEAD_SIZE};
+use crate::layout::Layout;
+use project::HEAD_SIZE;
 
-// A byte for each of eight groups: 1 where a block of the group is in ERROR.
-pub fn error_groups(blocks: &[u8], h: usize, n: usize, state: &[u8]) -> [u8; 8]
-    requires standing { Standing blocks.now state.now h }
-    requires grouped { Grouped blocks.now n }
-    ensures { result ≡ error_list h blocks.now state.now }
+// A byte for each of eight groups: 1 where a block of the group is in ERROR. (Eight, however many groups there are:
+// there is no heap, and `unchecked::groups_in_error` promises `error_list`, which has eight.)
+pub fn error_groups(layout: &Layout, state: &[u8]) -> [u8; 8]
+    requires state_len { Sized layout.now.groups layout.now.blocks.now state.now }
+    requires grouped { Grouped layout.now.blocks.now layout.now.count }
+    ensures { result ≡ error_list layout.now.groups layout.now.blocks.now state.now }
 {
     let mut marks = [0u8; 8];
-    let mut b = 0;
-    while b < n {
-        if block::is_error(part_at(state, GROUPS_AT + h + STATE_SIZE * b, STATE_SIZE)) {
-            let r = part_at(blocks, BLOCK_SIZE * b, BLOCK_SIZE);
-            let g = project::group_of(r) as usize;
+    for b in 0..layout.count {
+        if block::is_error(layout.cell(state, b)) {
+            let g = project::group_of(layout.record(b)) as usize;
             marks[g] = 1;
         }
-        b += 1;
     }
     marks
 }
@@ -101,15 +98,13 @@ pub fn decide(groups: &[u8], h: usize, rec: &[u8], errors: &[u8], state: &mut [u
 {
     let device = project::device_in(groups);
     let mut phases = [0u8; 8];
-    let mut g = 0;
-    while g < h {
+    for g in 0..h {
         let control = wire::byte(rec, HEAD_SIZE + g);
         let pending = pends(device, control, wire::byte(errors, g) == 1);
         let new = group_next(pending, kind::err_ack(control), state[GROUPS_AT + g]);
         let run = runs_with(project::run_linked(groups, g), control);
         phases[g] = phase_from(run, new);
         state[GROUPS_AT + g] = new;
-        g += 1;
     }
     phases
 }

@@ -6,77 +6,87 @@
 #![tactic(auto)]
 
 ghost use Rattle.std.specs.Prelude.{◌≡◌};
-ghost use Rattle.casefile.specs.Bodies.{starts_of};
-ghost use Rattle.evaluator.specs.Answer.{lends, refusal, cycle_of};
-ghost use Rattle.evaluator.specs.Fresh.{sizes_of, fresh_number, fresh_left};
+ghost use Rattle.casefile.specs.Bodies.{project_from, project_of};
+ghost use Rattle.evaluator.specs.Answer.{refusal_number, lends, call_verdict, cycle_of};
+ghost use Rattle.evaluator.specs.Fresh.{sizes_of, fresh_verdict, fresh_left};
+ghost use Rattle.evaluator.specs.declared.Refusal.TheVariants.{File};
 
 mod advance;
 mod checks;
 mod findings;
 mod groups;
+mod layout;
 mod outputs;
-mod parts;
 mod ranks;
 mod start;
 mod turns;
 pub mod unchecked;
 
 use block::{FINDING_SIZE, STATE_SIZE};
-use casefile::Starts;
-use project::{Counts, WORD_SIZE};
+use casefile::{Bodies, Rule};
+use project::WORD_SIZE;
 
 // Where the groups' bytes start in the state; the blocks' follow them.
 pub const GROUPS_AT: usize = 0;
 
-// What a cycle call answers: the count of findings, or the number with which it was turned down.
-#[derive(Clone, Copy)]
-pub enum Answer {
-    Findings(u32),
-    Refused(u8),
+// Why a call is turned down: a rule that its file breaks, buffers of other sizes than its project's, a state that is
+// not well formed, or a record that the project cannot have.
+#[derive(Clone, Copy, Debug, PartialEq, Eq)]
+pub enum Refusal {
+    File(Rule),
+    Sizes,
+    State,
+    Record,
 }
 
-// The number with which a call is turned down, 0 where it is not. The starts are those of the file's bodies.
-fn call_refusal(
+impl Refusal {
+    // The paper's number of it.
+    pub fn number(self) -> u8
+        ensures { result ≡ refusal_number self }
+    {
+        match self {
+            Refusal::File(r) => r.number(),
+            Refusal::Sizes => 10,
+            Refusal::State => 11,
+            Refusal::Record => 12,
+        }
+    }
+}
+
+impl From<Rule> for Refusal {
+    ghost from_gives = { λ rule refusal. refusal ≡ File rule };
+
+    fn from(rule: Rule) -> Refusal {
+        Refusal::File(rule)
+    }
+}
+
+// Whether a call is turned down, and why. The bodies are those of the file.
+fn check_call(
     file: &[u8],
-    starts: Starts,
+    bodies: Bodies,
     rec: &[u8],
     state: &[u8],
     outputs: &[u8],
     findings: &[u8],
-) -> u8
-    requires { starts ≡ starts_of file.now }
-    ensures { result ≡ refusal file.now rec.now
+) -> Result<(), Refusal>
+    requires { project_from bodies.groups.now bodies.inputs.now bodies.blocks.now bodies.outputs.now
+        ≡ project_of file.now }
+    ensures { result ≡ call_verdict file.now rec.now
         (lends state.now outputs.now findings.now) }
 {
-    let number = casefile::number_of(casefile::check(file));
-    if number != 0 {
-        return number;
-    }
-    let groups = casefile::body(file, starts, casefile::BODY_G);
-    let inputs = casefile::body(file, starts, casefile::BODY_I);
-    let blocks = casefile::body(file, starts, casefile::BODY_B);
-    let rows = casefile::body(file, starts, casefile::BODY_O);
-    let c = project::counts_of(groups, inputs, blocks, rows);
+    casefile::check(file)?;
+    let c = bodies.counts();
     if !checks::sizes_ok(c, state.len(), outputs.len(), findings.len()) {
-        return 10;
+        return Err(Refusal::Sizes);
     }
-    if !checks::state_ok(c, blocks, state) {
-        return 11;
+    if !checks::state_ok(c, bodies.blocks, state) {
+        return Err(Refusal::State);
     }
-    if !checks::record_ok(c, groups, inputs, rec) {
-        return 12;
+    if !checks::record_ok(c, bodies.groups, bodies.inputs, rec) {
+        return Err(Refusal::Record);
     }
-    0
-}
-
-// A cycle call that is turned down with a number. Every one is answered here, and leaves the buffers that it was lent
-// as they were.
-fn turned_down(number: u8, state: &mut [u8], outputs: &mut [u8], findings: &mut [u8]) -> Answer
-    ensures answered { result ≡ Answer.Refused number }
-    ensures kept { lends state.new outputs.new findings.new
-        ≡ lends state.old outputs.old findings.old }
-{
-    Answer::Refused(number)
+    Ok(())
 }
 
 // One cycle: the file's project from the state, with the record. Accepted, the state, the outputs and the findings are
@@ -87,7 +97,7 @@ pub fn cycle(
     state: &mut [u8],
     outputs: &mut [u8],
     findings: &mut [u8],
-) -> Answer
+) -> Result<u32, Refusal>
     ensures answered { result ≡ (cycle_of file.now rec.now
         (lends state.old outputs.old findings.old)).answer }
     ensures left { state.new
@@ -100,66 +110,61 @@ pub fn cycle(
         ≡ (cycle_of file.now rec.now
         (lends state.old outputs.old findings.old)).lent.findings }
 {
-    let starts = casefile::starts_of(file);
-    let number = call_refusal(file, starts, rec, state, outputs, findings);
-    if number != 0 {
-        return turned_down(number, state, outputs, findings);
-    }
-    let groups = casefile::body(file, starts, casefile::BODY_G);
-    let inputs = casefile::body(file, starts, casefile::BODY_I);
-    let blocks = casefile::body(file, starts, casefile::BODY_B);
-    let rows = casefile::body(file, starts, casefile::BODY_O);
-    let c = project::counts_of(groups, inputs, blocks, rows);
-    let count = advance::whole_cycle(c, groups, blocks, rows, rec, state, outputs, findings);
-    Answer::Findings(count)
+    let bodies = Bodies::of(file);
+    // A refusal is handed on before anything is written.
+    let checked = check_call(file, bodies, rec, state, outputs, findings);
+    checked?;
+    let c = bodies.counts();
+    let count = advance::whole_cycle(
+        c,
+        bodies.groups,
+        bodies.blocks,
+        bodies.outputs,
+        rec,
+        state,
+        outputs,
+        findings,
+    );
+    Ok(count)
 }
 
-// What the buffers' sizes are, or the number with which the file was turned down.
-#[derive(Clone, Copy)]
-pub enum Sizes {
-    Bytes {
-        state: u32,
-        outputs: u32,
-        findings: u32,
-    },
-    Refused(u8),
+// The sizes of an accepted project's buffers, in bytes.
+#[derive(Clone, Copy, Debug, PartialEq, Eq)]
+pub struct Sizes {
+    pub state: u32,
+    pub outputs: u32,
+    pub findings: u32,
 }
 
-// The sizes of an accepted project's buffers.
-pub fn sizes_of(file: &[u8]) -> Sizes
+#[tactic(auto, using(crate::proofs::Calls::file_few))]
+pub fn sizes_of(file: &[u8]) -> Result<Sizes, Rule>
     ensures { result ≡ sizes_of file.now }
 {
-    let number = casefile::number_of(casefile::check(file));
-    if number != 0 {
-        return Sizes::Refused(number);
-    }
+    casefile::check(file)?;
     let c = casefile::counts_in(file);
     let groups = c.groups;
     let blocks = c.blocks;
     let outputs = c.outputs;
-    Sizes::Bytes {
+    Ok(Sizes {
         state: (GROUPS_AT + groups + STATE_SIZE * blocks) as u32,
         outputs: (WORD_SIZE * outputs) as u32,
         findings: (FINDING_SIZE * blocks) as u32,
-    }
+    })
 }
 
-// The fresh state of an accepted project, into a buffer of the exact size. Answers 0, or the number with which the call
-// was turned down.
-pub fn fresh(file: &[u8], state: &mut [u8]) -> u8
-    ensures answered { result ≡ fresh_number file.now state.old }
+// The fresh state of an accepted project, into a buffer of the exact size.
+#[tactic(auto, using(crate::proofs::Calls::file_few))]
+pub fn fresh(file: &[u8], state: &mut [u8]) -> Result<(), Refusal>
+    ensures answered { result ≡ fresh_verdict file.now state.old }
     ensures left { state.new ≡ fresh_left file.now state.old }
 {
-    let number = casefile::number_of(casefile::check(file));
-    if number != 0 {
-        return number;
-    }
+    casefile::check(file)?;
     let c = casefile::counts_in(file);
     let groups = c.groups;
     let blocks = c.blocks;
     if state.len() != GROUPS_AT + groups + STATE_SIZE * blocks {
-        return 10;
+        return Err(Refusal::Sizes);
     }
     start::write_fresh(GROUPS_AT + groups, blocks, state);
-    0
+    Ok(())
 }

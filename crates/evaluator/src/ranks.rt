@@ -1,22 +1,20 @@
 // The blocks by execution number.
 ghost use Rattle.std.specs.Prelude.{◌≡◌};
+ghost use Rattle.project.specs.Project.{block_count};
 ghost use Rattle.evaluator.specs.Asks.{Ordered, order_list};
 
-use crate::parts::part_at;
 use project::BLOCK_SIZE;
 
-// The number of the block with the execution number e, at place e, and 0 past the n blocks.
-pub fn ranks(blocks: &[u8], n: usize) -> [u8; 64]
-    requires { Ordered blocks.now n }
+// The number of the block with the execution number e, at place e, and 0 past the blocks. (64 bytes, however many
+// blocks there are: there is no heap, and `unchecked::block_order` promises `order_list`, which has 64.)
+pub fn ranks(blocks: &[u8]) -> [u8; 64]
+    requires { Ordered blocks.now (block_count blocks.now) }
     ensures { result ≡ order_list blocks.now }
 {
     let mut at = [0u8; 64];
-    let mut b = 0;
-    while b < n {
-        let r = part_at(blocks, BLOCK_SIZE * b, BLOCK_SIZE);
+    for (b, r) in blocks.chunks_exact(BLOCK_SIZE).enumerate() {
         let e = project::order_of(r) as usize;
         at[e] = (b % 256) as u8;
-        b += 1;
     }
     at
 }

@@ -10,11 +10,9 @@ fn fresh_blocks(cells: &mut [u8], n: usize)
     requires { length cells.old ≡ state_size * n }
     ensures { cells.new ≡ gather n (λ b. fresh_bytes) }
 {
-    let mut b = 0;
-    while b < n {
-        let bytes = block::fresh();
+    let bytes = block::fresh();
+    for b in 0..n {
         wire::put(cells, STATE_SIZE * b, &bytes);
-        b += 1;
     }
 }
 

@@ -7,7 +7,8 @@ ghost use Rattle.project.specs.Project.{input_count};
 ghost use Rattle.evaluator.specs.Steps.{step_answer, step_state, step_findings};
 ghost use Rattle.evaluator.specs.Asks.{Standing, Grouped, Ordered, Begun, Listed, order_list, error_list};
 
-use crate::Answer;
+use crate::Refusal;
+use crate::layout::Layout;
 use project::Counts;
 
 // The blocks by execution number.
@@ -15,7 +16,7 @@ pub fn block_order(c: Counts, blocks: &[u8]) -> [u8; 64]
     requires { Ordered blocks.now c.blocks }
     ensures { result ≡ order_list blocks.now }
 {
-    crate::ranks::ranks(blocks, c.blocks)
+    crate::ranks::ranks(blocks)
 }
 
 // The groups that have a block in ERROR, a byte each.
@@ -24,7 +25,12 @@ pub fn groups_in_error(c: Counts, blocks: &[u8], state: &[u8]) -> [u8; 8]
     requires grouped { Grouped blocks.now c.blocks }
     ensures { result ≡ error_list c.groups blocks.now state.now }
 {
-    crate::groups::error_groups(blocks, c.groups, c.blocks, state)
+    let layout = Layout {
+        blocks,
+        groups: c.groups,
+        count: c.blocks,
+    };
+    crate::groups::error_groups(&layout, state)
 }
 
 // One cycle of an accepted project from a well-formed state.
@@ -38,7 +44,7 @@ pub fn step(
     rec: &[u8],
     state: &mut [u8],
     findings: &mut [u8],
-) -> Answer
+) -> Result<u32, Refusal>
     requires listed { Listed c groups.now inputs.now }
     requires begun { Begun c (input_count inputs.now) groups.now blocks.now order.now errors.now state.old
         findings.old }
@@ -52,8 +58,8 @@ pub fn step(
         state.old findings.old }
 {
     if !crate::checks::record_ok(c, groups, inputs, rec) {
-        return Answer::Refused(12);
+        return Err(Refusal::Record);
     }
     let count = crate::advance::advance(c, groups, blocks, order, errors, rec, state, findings);
-    Answer::Findings(count)
+    Ok(count)
 }

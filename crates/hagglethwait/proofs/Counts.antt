@@ -1,13 +1,13 @@
 -- No buffer of an accepted file is larger than the header says, and no number of an accepted ledger. Assumes nothing.
 use Rattle.wire.proofs.Usual.{◌≡◌, refl, subst, Bool, true, false, not, cond, List}
-use Rattle.wire.proofs.Usual.{ℕ, zero, suc, ◌+◌, ◌<◌, ◌≤◌, arith, eqb, ltb, ne_eqb, ltb-true}
-use Rattle.wire.specs.Tables.{first}
+use Rattle.wire.proofs.Usual.{ℕ, ◌+◌, ◌<◌, ◌≤◌, arith, ltb, ltb-true}
+use Rattle.std.specs.Prelude.{Result, Ok, Err}
 use Rattle.wire.specs.Places.{first_bad}
 use borrow.Author.Tests.{not-false}
 use Rattle.wire.proofs.Places.{found, both_left, both_right}
+use Rattle.casefile.specs.declared.table.Rule.{Rule}
 use Rattle.casefile.specs.Bodies.{project_of}
-use Rattle.casefile.specs.Refusal.{file_table}
-use Rattle.casefile.proofs.Refusals.{number_zero}
+use Rattle.casefile.specs.Refusal.{verdict}
 use Rattle.casefile.proofs.Accepted.{accepted}
 use Rattle.evaluator.specs.declared.Sizes.{Sizes}
 use Rattle.evaluator.specs.State.{state_length, outputs_length, findings_length}
@@ -16,7 +16,7 @@ use Rattle.evaluator.proofs.Checking.{Taken, taken}
 use Rattle.year.specs.declared.Closings.{Closings}
 use Rattle.year.specs.declared.Line.{Line}
 use Rattle.year.specs.declared.bends.Sides.{Sides}
-use Rattle.year.specs.declared.Bend.TheVariants.{After, Nothing}
+use Rattle.std.proofs.Common.{Some, None}
 use Rattle.year.specs.Ledger.{month_count, ledger_number}
 use Rattle.year.specs.Bends.{sum_of, pool_of, sides_at, both_sides, largest, bend_of, bend_number}
 use Rattle.year.specs.Year.{lines_of}
@@ -28,32 +28,27 @@ use Rattle.hagglethwait.specs.Ledgers.{most_bend}
 
 -- ---- the sizes, as they are left in numbers that were 0
 
-not_zero : (n : ℕ) → eqb (suc n) 0 ≡ false
-not_zero n = ne_eqb (suc n) 0 (λ h. omega (arith, h))
-
 -- what the header says of them
-pub record Small (z : Sizes) : Type 0 where
+pub record Small (z : Result Sizes Rule) : Type 0 where
   pub state : state_said z 0 ≤ most_state
   pub outputs : outputs_said z 0 ≤ most_output_bytes
   pub findings : findings_said z 0 ≤ most_finding_bytes
 
 module _ (F : List ℕ) where
-  small_at : (n : ℕ) → first (file_table F) ≡ n → Small (sizes_at n (project_of F))
+  small_at : (v : Result (Unit {0}) Rule) → verdict F ≡ v → Small (sizes_at v (project_of F))
   unfolding state_length outputs_length findings_length
-  small_at zero z =
-      let t : Taken (project_of F) = taken F (accepted F (number_zero F z)) in
+  small_at (Ok u) z =
+      let t : Taken (project_of F) = taken F (accepted F z) in
       record {
         state = omega (arith, t.sound.few_groups, t.sound.few_blocks);
         outputs = omega (arith, t.shown.few);
         findings = omega (arith, t.sound.few_blocks);
       }
-  small_at (suc n) z =
-      rw (not_zero n)
-      (record { state = omega arith; outputs = omega arith; findings = omega arith })
+  small_at (Err r) z = record { state = omega arith; outputs = omega arith; findings = omega arith }
 
   pub small : Small (sizes_of F)
   unfolding sizes_of
-  small = small_at (first (file_table F)) refl
+  small = small_at (verdict F) refl
 
 -- ---- a ledger's numbers
 
@@ -82,7 +77,7 @@ module _ (L : List Line) where
       none_later (subst (λ (m : ℕ). largest L m ≡ true) q
       (not-false (largest L top) ((found (λ m. not (largest L m)) month_count).fails l)))
 
-  few_at : (t : Bool) → ltb top month_count ≡ t → bend_number (cond t (After (top + 1)) Nothing) ≤ most_bend
+  few_at : (t : Bool) → ltb top month_count ≡ t → bend_number (cond t (Some (top + 1)) None) ≤ most_bend
   few_at true e =
       let l : top < month_count = ltb-true top month_count e in
       omega (arith, l, not_last l)

@@ -1,64 +1,47 @@
--- The invariant of a loop that fills a column of two tables' lines, month by month in both halves: L are the lines of
--- the first, P those of the second, xs the column. Assumes nothing.
-use Rattle.wire.proofs.Usual.{◌≡◌, refl, sym, ap, ap₂, ◌∙◌, subst, List, ◌++◌, ℕ, ◌+◌, ◌<◌, ◌≤◌, arith}
-use Rattle.wire.proofs.Usual.{length, set, take, drop}
+-- Two tables' lines one behind the other, and a column that is made of them. Assumes nothing.
+use Rattle.wire.proofs.Usual.{◌≡◌, refl, sym, ap, ap₂, ◌∙◌, subst, List, ◌++◌, append-nil, ℕ, zero, suc, ◌+◌, ◌<◌, ◌≤◌}
+use Rattle.wire.proofs.Usual.{dec_lt, arith, length, length-append, take, drop}
+use Rattle.std.proofs.lemmas.List.{map-append}
 use mathlib.Core.List.{map}
-use lib.ListN.{length-map, get_or-map, take-append-drop}
-use lib.Seq.{take-set-lt, take-set-le, drop-set-lt, drop-set-add}
-use Rattle.year.specs.declared.Line.{Line}
-use Rattle.year.specs.Ledger.{month_count}
-use Rattle.year.specs.Bends.{no_line, line_at}
-use Rattle.year.proofs.Filling.{Filled, fill_begin, fill_more, fill_done, is_from}
+use lib.ListN.{get_or, length-map, get_or-map}
+use lib.Seq.{take_at, drop_at, drop-length, ext_get_or}
+use denote.Param.Members.{Mut}
+use Rattle.std.specs.Fn.{Called}
+use Rattle.std.specs.Array.{IsMapOf, MapsFrom}
 
-module _ {A : Type 0} (f : Line → A) where
-  -- a half in which the months before k are there
-  abbrev Half : List Line → List A → ℕ → Type 0
-  Half L ys k = Filled (f no_line) (λ i. f (line_at L i)) month_count ys k
+-- the first half of a list is A, and the second, R, is replaced by P
+pub halves : {X : Type 0} (A R P : List X) (n : ℕ) → length A ≡ n → length R ≡ n →
+    take n (A ++ R) ++ (P ++ drop n (drop n (A ++ R))) ≡ A ++ P
+halves A R P n e d =
+    ap₂ ◌++◌ (take_at A R n e)
+    (ap (λ t. P ++ drop n t) (drop_at A R n e)
+    ∙ ap (λ (m : ℕ). P ++ drop m R) (sym d) ∙ ap (λ t. P ++ t) (drop-length R) ∙ append-nil P)
 
-  half_done : (L : List Line) (ys : List A) (k : ℕ) → length L ≡ month_count → Half L ys k →
-      month_count ≤ k → ys ≡ map f L
-  half_done L ys k e h l =
-      fill_done _ _ _ _ _ h l
-      ∙ sym (is_from (f no_line) (map f L) month_count _ (length-map L f ∙ e) (λ i m. get_or-map f L i no_line))
+-- what the library's `map` of an array gives, where each call gives h of its element and changes nothing
+module _ {F A B : Type 0} {g : Mut F (A × Unit {0}) B} {f : F} (d : A) (h : A → B)
+    (calls : (x : A) (b : B) (q : F) → Called g f (x, tt) b q → (q ≡ f) × (b ≡ h x)) where
+  mapped : (xs : List A) (ys : List B) (i m : ℕ) (p : F) → p ≡ f → MapsFrom g p xs ys i m →
+      (j : ℕ) → i ≤ j → j < i + m → get_or ys j (h d) ≡ h (get_or xs j d)
+  mapped xs ys i zero p e r j a l = absurd (omega arith)
+  mapped xs ys i (suc m) p e r j a l = go (dec_lt i j) (mapped xs ys (i + 1) m r.0 first.0 r.6 j)
+    where
+      first : (r.0 ≡ f) × (r.2 ≡ h r.1)
+      first = calls r.1 r.2 r.0 (subst (λ (q : F). Called g q (r.1, tt) r.2 r.0) e r.5)
 
-  -- what the stores of month k leave of each half
-  before : (xs : List A) (k : ℕ) (v w : A) → k < month_count →
-      take month_count (set (set xs k v) (month_count + k) w) ≡ set (take month_count xs) k v
-  before xs k v w l =
-      take-set-le month_count (set xs k v) (month_count + k) w (omega arith) ∙ take-set-lt month_count xs k v l
+      go : Dec (i < j) → (i + 1 ≤ j → j < i + 1 + m → get_or ys j (h d) ≡ h (get_or xs j d)) →
+          get_or ys j (h d) ≡ h (get_or xs j d)
+      go (yes q) later = later (omega arith) (omega arith)
+      go (no q) later =
+          let same : i ≡ j = omega (arith, q) in
+          subst (λ (k : ℕ). get_or ys k (h d) ≡ h (get_or xs k d)) same
+          (r.4.1 (h d) ∙ first.1 ∙ ap h (sym (r.3.1 d)))
 
-  behind : (xs : List A) (k : ℕ) (v w : A) → k < month_count →
-      drop month_count (set (set xs k v) (month_count + k) w) ≡ set (drop month_count xs) k w
-  behind xs k v w l =
-      drop-set-add month_count (set xs k v) k w
-      ∙ ap (λ (ys : List A). set ys k w) (drop-set-lt month_count xs k v l)
+  pub map_is : {xs : List A} {ys : List B} {n : ℕ} → length xs ≡ n → IsMapOf g f xs ys n → ys ≡ map h xs
+  map_is {xs} {ys} {n} e r =
+      ext_get_or (h d) ys (map h xs) (r.long ∙ sym e ∙ sym (length-map xs h))
+      (λ i l. mapped xs ys 0 n f refl r.each i (omega arith) (omega (arith, l, r.long)) ∙ sym (get_or-map h xs i d))
 
-  pub record Halves (L P : List Line) (xs : List A) (k : ℕ) : Type 0 where
-    pub first : Half L (take month_count xs) k
-    pub second : Half P (drop month_count xs) k
-
-  module _ (L P : List Line) where
-    pub halves_begin : (xs : List A) → length (take month_count xs) ≡ month_count →
-        length (drop month_count xs) ≡ month_count → Halves L P xs 0
-    halves_begin xs e g = record { first = fill_begin _ _ _ _ e; second = fill_begin _ _ _ _ g }
-
-    -- a month is stored in both
-    pub halves_more : (xs : List A) (k : ℕ) → Halves L P xs k → k < month_count →
-        Halves L P (set (set xs k (f (line_at L k))) (month_count + k) (f (line_at P k))) (k + 1)
-    halves_more xs k h l =
-        let v : A = f (line_at L k) in
-        let w : A = f (line_at P k) in
-        record {
-          first =
-              subst (λ (ys : List A). Half L ys (k + 1)) (sym (before xs k v w l))
-              (fill_more _ _ _ _ _ _ h.first l refl);
-          second =
-              subst (λ (ys : List A). Half P ys (k + 1)) (sym (behind xs k v w l))
-              (fill_more _ _ _ _ _ _ h.second l refl);
-        }
-
-    pub halves_done : (xs : List A) (k : ℕ) → length L ≡ month_count → length P ≡ month_count →
-        Halves L P xs k → month_count ≤ k → xs ≡ map f L ++ map f P
-    halves_done xs k e g h l =
-        sym (take-append-drop month_count xs)
-        ∙ ap₂ ◌++◌ (half_done L _ k e h.first l) (half_done P _ k g h.second l)
+  -- of two lists one behind the other
+  pub column_is : (L P : List A) {xs : List A} {ys : List B} {n : ℕ} → xs ≡ L ++ P → length L + length P ≡ n →
+      IsMapOf g f xs ys n → ys ≡ map h L ++ map h P
+  column_is L P q e r = map_is (ap length q ∙ length-append L P ∙ e) r ∙ ap (map h) q ∙ map-append h L P

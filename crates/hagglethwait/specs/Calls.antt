@@ -1,38 +1,37 @@
 -- What the answers of the product's calls are as C's numbers, what a call leaves in the numbers that it is lent, and
 -- how large the buffers may be (01, "Turned down: numbers and order").
-use Rattle.std.specs.Prelude.{ℕ, ◌+◌, ◌*◌, List, ℤ, pos, neg_ℤ}
+use Rattle.std.specs.Prelude.{ℕ, ◌+◌, ◌*◌, List, ℤ, pos, neg_ℤ, Result, Ok, Err}
 use Rattle.project.specs.Project.{word_size}
 use Rattle.block.specs.State.{state_size}
 use Rattle.block.specs.Finding.{finding_size}
 use Rattle.evaluator.specs.State.{state_head}
-use Rattle.evaluator.specs.declared.Answer.{Answer}
-use Rattle.evaluator.specs.declared.Answer.TheVariants.{Findings, Refused}
+use Rattle.casefile.specs.declared.table.Rule.{Rule}
+use Rattle.evaluator.specs.declared.Refusal.{Refusal}
 use Rattle.evaluator.specs.declared.Sizes.{Sizes}
-use Rattle.evaluator.specs.declared.Sizes.TheVariants.{Bytes, Refused as NotSized}
-use Rattle.evaluator.specs.Answer.{Left, lends, cycle_of}
+use Rattle.evaluator.specs.Answer.{Left, refusal_number, lends, cycle_of}
 
 -- 01, "Turned down": a cycle call takes file, one record, state, outputs, findings
 abbrev pub call_of : List ℕ → List ℕ → List ℕ → List ℕ → List ℕ → Left
 call_of file rec state outputs findings = cycle_of file rec (lends state outputs findings)
 
 -- DECISIONS 38: the count of findings, 0 or more, or minus the refusal's number
-abbrev pub answer_number : Answer → ℤ
-answer_number (Findings k) = pos k
-answer_number (Refused n) = neg_ℤ (pos n)
+abbrev pub answer_number : Result ℕ Refusal → ℤ
+answer_number (Ok k) = pos k
+answer_number (Err r) = neg_ℤ (pos (refusal_number r))
 
 -- 01, "Turned down", Sizes: what is left in the number lent for a buffer's size, which was x; refused, nothing is
 -- written
-abbrev pub state_said : Sizes → ℕ → ℕ
-state_said (Bytes s o d) x = s
-state_said (NotSized n) x = x
+abbrev pub state_said : Result Sizes Rule → ℕ → ℕ
+state_said (Ok z) x = z.state
+state_said (Err r) x = x
 
-abbrev pub outputs_said : Sizes → ℕ → ℕ
-outputs_said (Bytes s o d) x = o
-outputs_said (NotSized n) x = x
+abbrev pub outputs_said : Result Sizes Rule → ℕ → ℕ
+outputs_said (Ok z) x = z.outputs
+outputs_said (Err r) x = x
 
-abbrev pub findings_said : Sizes → ℕ → ℕ
-findings_said (Bytes s o d) x = d
-findings_said (NotSized n) x = x
+abbrev pub findings_said : Result Sizes Rule → ℕ → ℕ
+findings_said (Ok z) x = z.findings
+findings_said (Err r) x = x
 
 -- ---- how large, as include/hagglethwait.h says it
 

@@ -1,13 +1,13 @@
 // What the call for a ledger stores (02, W4): the two tables as columns of numbers, that with script closings first.
-ghost use Rattle.std.specs.Prelude.{◌≡◌};
-ghost use Rattle.hagglethwait.specs.Ledgers.{columns_of, bends_of};
+ghost use Rattle.std.specs.Prelude.{◌≡◌, ◌++◌};
+ghost use Rattle.hagglethwait.specs.Ledgers.{columns_of, bends_in};
 
-use year::{Line, MONTHS, Table};
+use year::{Line, MONTHS, Year};
 
 // A column has a place for each month of both tables.
 pub const PLACES: usize = 2 * MONTHS;
 
-// The lines of both tables, column by column.
+// The lines of both tables, column by column. Parallel arrays are the C interface: the call for C stores these three.
 #[derive(Drop)]
 pub struct Columns {
     pub findings: [u32; PLACES],
@@ -15,38 +15,34 @@ pub struct Columns {
     pub rates: [f64; PLACES],
 }
 
-// The columns of both tables' lines.
-pub fn columns_of(every: [Line; MONTHS], person: [Line; MONTHS]) -> Columns
-    ensures { result ≡ columns_of every person }
+// The lines of one table, and those of the other behind them.
+fn lines_of(every: &[Line; MONTHS], person: &[Line; MONTHS]) -> [Line; PLACES]
+    ensures { result ≡ every.now ++ person.now }
 {
-    let mut findings = [0u32; PLACES];
-    let mut dismissed = [0u32; PLACES];
-    let mut rates = [0.0; PLACES];
-    let mut m = 0;
-    while m < MONTHS {
-        let with = every[m];
-        let without = person[m];
-        let at = MONTHS + m;
-        findings[m] = with.findings;
-        findings[at] = without.findings;
-        dismissed[m] = with.dismissed;
-        dismissed[at] = without.dismissed;
-        rates[m] = with.rate;
-        rates[at] = without.rate;
-        m += 1;
-    }
+    let mut lines = [every[0]; PLACES];
+    lines[..MONTHS].copy_from_slice(every);
+    lines[MONTHS..].copy_from_slice(person);
+    lines
+}
+
+// The columns of both tables' lines.
+pub fn columns_of(every: &[Line; MONTHS], person: &[Line; MONTHS]) -> Columns
+    ensures { result ≡ columns_of every.now person.now }
+{
+    let lines = lines_of(every, person);
     Columns {
-        findings,
-        dismissed,
-        rates,
+        findings: lines.map(|l| l.findings),
+        dismissed: lines.map(|l| l.dismissed),
+        rates: lines.map(|l| l.rate),
     }
 }
 
-// The bends of both tables.
-pub fn bends_of(every: Table, person: Table) -> [u8; 2]
-    ensures { result ≡ bends_of every person }
+// The bends of both tables, 0 for none.
+pub fn bends_of(y: &Year) -> [u8; 2]
+    ensures { result ≡ bends_in y.now }
 {
-    let first = every.bend;
-    let second = person.bend;
-    [year::bend_number(first), year::bend_number(second)]
+    [
+        year::bend_number(y.every.bend),
+        year::bend_number(y.person.bend),
+    ]
 }

@@ -13,7 +13,6 @@ ghost use Rattle.hagglethwait.specs.Ledgers.{findings_left, dismissed_left, rate
 
 mod ledgers;
 
-use evaluator::{Answer, Sizes};
 pub use ledgers::PLACES;
 
 // 0 for a case file, or the number with which it is turned down.
@@ -33,19 +32,14 @@ pub fn hagglethwait_sizes(file: &[u8], state: &mut u32, outputs: &mut u32, findi
     ensures told { findings.new
         ≡ findings_said (sizes_of file.now) findings.old }
 {
-    let sizes = evaluator::sizes_of(file);
-    match sizes {
-        Sizes::Bytes {
-            state: s,
-            outputs: o,
-            findings: f,
-        } => {
-            *state = s;
-            *outputs = o;
-            *findings = f;
+    match evaluator::sizes_of(file) {
+        Ok(sizes) => {
+            *state = sizes.state;
+            *outputs = sizes.outputs;
+            *findings = sizes.findings;
             0
         }
-        Sizes::Refused(number) => number,
+        Err(rule) => rule.number(),
     }
 }
 
@@ -55,7 +49,10 @@ pub fn hagglethwait_fresh(file: &[u8], state: &mut [u8]) -> u8
     ensures answered { result ≡ fresh_number file.now state.old }
     ensures left { state.new ≡ fresh_left file.now state.old }
 {
-    evaluator::fresh(file, state)
+    match evaluator::fresh(file, state) {
+        Ok(()) => 0,
+        Err(refusal) => refusal.number(),
+    }
 }
 
 // One cycle from the state, with the record. Answers the count of findings, 0 or more, or minus the number with which
@@ -76,10 +73,9 @@ pub fn hagglethwait_cycle(
     ensures told { findings.new ≡ (call_of file.now rec.now state.old
         outputs.old findings.old).lent.findings }
 {
-    let answer = evaluator::cycle(file, rec, state, outputs, findings);
-    match answer {
-        Answer::Findings(count) => count as i32,
-        Answer::Refused(number) => -(number as i32),
+    match evaluator::cycle(file, rec, state, outputs, findings) {
+        Ok(count) => count as i32,
+        Err(refusal) => -(refusal.number() as i32),
     }
 }
 
@@ -100,21 +96,15 @@ pub fn hagglethwait_ledger(
     ensures rated { rates.new ≡ rates_left (year_of file.now) rates.old }
     ensures bent { bends.new ≡ bends_left (year_of file.now) bends.old }
 {
-    let answer = year::year_of(file);
-    if answer.number != 0 {
-        return answer.number;
+    match year::year_of(file) {
+        Ok(year) => {
+            let columns = ledgers::columns_of(&year.every.lines, &year.person.lines);
+            findings.copy_from_slice(&columns.findings);
+            dismissed.copy_from_slice(&columns.dismissed);
+            rates.copy_from_slice(&columns.rates);
+            *bends = ledgers::bends_of(&year);
+            0
+        }
+        Err(e) => e.number(),
     }
-    let every = answer.every;
-    let person = answer.person;
-    let first = every.lines;
-    let second = person.lines;
-    let columns = ledgers::columns_of(first, second);
-    let found = columns.findings;
-    let gone = columns.dismissed;
-    let rated = columns.rates;
-    *findings = found;
-    *dismissed = gone;
-    *rates = rated;
-    *bends = ledgers::bends_of(every, person);
-    answer.number
 }

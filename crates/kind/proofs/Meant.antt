@@ -6,7 +6,8 @@ use Rattle.wire.specs.Places.{first_bad, all}
 use Rattle.wire.proofs.Places.{all_each, both_left, both_right}
 use Rattle.kind.specs.Kinds.{family_of}
 use Rattle.kind.specs.Masks.{is_within, meets}
-use Rattle.kind.specs.Devices.{EL6900, EL6910, device_of, is_com_err, is_module_fault, available, is_pending}
+use Rattle.kind.specs.Devices.{EL6900, EL6910, device_of, controls_of, is_com_err, is_module_fault}
+use Rattle.kind.specs.Devices.{available, is_pending}
 use Rattle.kind.specs.Parameters.{parameters_fit, parameters_ok}
 
 abbrev same : Bool → Bool → Bool
@@ -28,8 +29,8 @@ right v =
 
 -- what the masks say of a byte
 pub record Meant (v : ℕ) : Type 0 where
-  pub controls6900 : is_within v (device_of EL6900).controls ≡ ltb v 8
-  pub controls6910 : is_within v (device_of EL6910).controls ≡ ltb v 16
+  pub controls6900 : is_within v (controls_of (device_of EL6900)) ≡ ltb v 8
+  pub controls6910 : is_within v (controls_of (device_of EL6910)) ≡ ltb v 16
   pub pending6900 : is_pending EL6900 v ≡ is_com_err v
   pub pending6910 : is_pending EL6910 v ≡ is_com_err v || is_module_fault v
 

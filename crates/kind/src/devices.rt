@@ -1,57 +1,88 @@
 // What a device has and allows, and the rules that go by it: a group's byte of G, and a group's byte of a record.
 ghost use Rattle.std.specs.Prelude.{◌≡◌};
 ghost use Rattle.kind.specs.Masks.{is_within, meets};
-ghost use Rattle.kind.specs.Devices.{device_of, is_device, group_rule, is_run, is_err_ack, control_rule, is_pending};
+ghost use Rattle.kind.specs.Devices.{device_from, features_of, device_of, is_device, is_tied, controls_of, pending_of};
+ghost use Rattle.kind.specs.Devices.{group_rule, is_run, is_err_ack, control_rule, is_pending};
 
-use crate::{Device, EL6900, EL6910};
+use crate::{Device, Features, UnknownDevice};
 
-// The device of a byte: a row for each, and one that allows nothing for a byte that is no device's.
+impl TryFrom<u8> for Device {
+    type Error = UnknownDevice;
+
+    ghost try_from_gives = { λ byte r. r ≡ device_from byte };
+
+    fn try_from(byte: u8) -> Result<Device, UnknownDevice> {
+        match byte {
+            0 => Ok(Device::El6900),
+            1 => Ok(Device::El6910),
+            _ => Err(UnknownDevice(byte)),
+        }
+    }
+}
+
+impl Device {
+    // The device's row of the table.
+    fn features(self) -> Features
+        ensures { result ≡ features_of self }
+    {
+        match self {
+            Device::El6900 => Features {
+                twohand: true,
+                arithmetic: false,
+                tied: false,
+                controls: 7,
+                pending: 4,
+            },
+            Device::El6910 => Features {
+                twohand: true,
+                arithmetic: true,
+                tied: true,
+                controls: 15,
+                pending: 12,
+            },
+        }
+    }
+}
+
+// What the device of a byte has and allows.
 #[tactic(auto, unfolding(crate::specs::Devices::device_of))]
-pub fn device_of(device: u8) -> Device
+pub fn device_of(device: u8) -> Option<Features>
     ensures { result ≡ device_of device }
 {
-    if device == EL6900 {
-        return Device {
-            known: true,
-            twohand: true,
-            arithmetic: false,
-            tied: false,
-            controls: 7,
-            pending: 4,
-        };
-    }
-    if device == EL6910 {
-        return Device {
-            known: true,
-            twohand: true,
-            arithmetic: true,
-            tied: true,
-            controls: 15,
-            pending: 12,
-        };
-    }
-    Device {
-        known: false,
-        twohand: false,
-        arithmetic: false,
-        tied: true,
-        controls: 0,
-        pending: 0,
-    }
+    Device::try_from(device).ok().map(|d| d.features())
 }
 
 // Whether a byte is a device's.
 pub fn is_device(device: u8) -> bool
     ensures { result ≡ is_device device }
 {
-    device_of(device).known
+    device_of(device).is_some()
+}
+
+// A byte that is no device's asks that Run is linked, and allows no bit.
+fn is_tied(device: u8) -> bool
+    ensures { result ≡ is_tied (device_of device) }
+{
+    device_of(device).is_none_or(|d| d.tied)
+}
+
+fn controls_of(device: u8) -> u8
+    ensures { result ≡ controls_of (device_of device) }
+{
+    device_of(device).map_or(0, |d| d.controls)
+}
+
+fn pending_of(device: u8) -> u8
+    ensures { result ≡ pending_of (device_of device) }
+{
+    device_of(device).map_or(0, |d| d.pending)
 }
 
 // A group's byte of G: 1 if Run is linked, 0 if not, and 1 where the device asks for it.
 pub fn group_rule(device: u8, run: u8) -> bool
     ensures { result ≡ group_rule device run }
 {
-    (run <= 1) & (!device_of(device).tied | (run == 1))
+    (run <= 1) & (!is_tied(device) | (run == 1))
 }
 
 // No bit of v that the mask has not.
@@ -67,7 +98,7 @@ pub fn is_within(v: u8, mask: u8) -> bool
 fn meets(v: u8, mask: u8) -> bool
     ensures { result ≡ meets v mask }
 {
-    !((v & mask) == 0)
+    (v & mask) != 0
 }
 
 // Whether a group's byte of a record has Run, and whether it has ErrAck.
@@ -87,12 +118,12 @@ pub fn err_ack(v: u8) -> bool
 pub fn control_rule(device: u8, linked: u8, v: u8) -> bool
     ensures { result ≡ control_rule device linked v }
 {
-    is_within(v, device_of(device).controls) & ((linked == 1) | !is_run(v))
+    is_within(v, controls_of(device)) & ((linked == 1) | !is_run(v))
 }
 
 // Whether a group's byte of a record makes the group pending.
 pub fn is_pending(device: u8, v: u8) -> bool
     ensures { result ≡ is_pending device v }
 {
-    meets(v, device_of(device).pending)
+    meets(v, pending_of(device))
 }

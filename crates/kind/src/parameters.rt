@@ -1,11 +1,12 @@
 // The 12 parameter bytes of a block: each by its name, and the rule that they keep by themselves.
 ghost use Rattle.std.specs.Prelude.{◌≡◌, eqb};
 ghost use Rattle.wire.specs.Words.{le32};
+ghost use Rattle.kind.specs.Kinds.{DIV};
 ghost use Rattle.kind.specs.Parameters.{active_mask, open_mask, limits_of, first_type, second_type, output_type};
 ghost use Rattle.kind.specs.Parameters.{rounding_byte, twohand_rule, arithmetic_rule, parameters_fit, parameters_ok};
 
 use crate::devices::is_within;
-use crate::{BOOL, DIV, Family, Limits};
+use crate::{BOOL, Family, Kind, Limits};
 
 // TWOHAND's parameters.
 pub fn active_mask(p: &[u8]) -> u8
@@ -69,13 +70,20 @@ fn twohand_rule(active: u8, opened: u8, l: Limits) -> bool
 {
     (active < 16)
         & is_within(opened, active)
-        & !(active % 4 == 0)
-        & !(active / 4 == 0)
+        & (active % 4 != 0)
+        & (active / 4 != 0)
         & (l.first <= 60000)
         & ((l.first == 0) | (active % 4 == 3))
         & (l.second <= 60000)
         & ((l.second == 0) | (active / 4 == 3))
         & (l.between <= 2500)
+}
+
+// Whether a byte is DIV's.
+fn is_div(kind: u8) -> bool
+    ensures { result ≡ eqb kind DIV }
+{
+    matches!(Kind::try_from(kind), Ok(Kind::Div))
 }
 
 // Arithmetic: three number types, and a rounding that only DIV has.
@@ -87,19 +95,19 @@ fn arithmetic_rule(kind: u8, first: u8, second: u8, output: u8, rounding: u8) ->
         & (second < BOOL)
         & (output < BOOL)
         & (rounding <= 2)
-        & ((rounding == 0) | (kind == DIV))
+        & ((rounding == 0) | is_div(kind))
 }
 
 // The parameters' rule of a family.
 #[tactic(auto, unfolding(crate::specs::Parameters::parameters_fit))]
-fn parameters_fit(family: Family, kind: u8, p: &[u8]) -> bool
+fn parameters_fit(family: Option<Family>, kind: u8, p: &[u8]) -> bool
     ensures { result ≡ parameters_fit family kind p.now }
 {
     match family {
-        Family::Decouple => zeros_at(p, 0) & zeros_at(p, 4) & zeros_at(p, 8),
-        Family::Twohand => twohand_rule(active_mask(p), open_mask(p), limits_of(p))
+        Some(Family::Decouple) => zeros_at(p, 0) & zeros_at(p, 4) & zeros_at(p, 8),
+        Some(Family::Twohand) => twohand_rule(active_mask(p), open_mask(p), limits_of(p))
             & zeros_at(p, 8),
-        Family::Arithmetic => {
+        Some(Family::Arithmetic) => {
             arithmetic_rule(
                 kind,
                 first_type(p),
@@ -109,7 +117,7 @@ fn parameters_fit(family: Family, kind: u8, p: &[u8]) -> bool
             ) & zeros_at(p, 4)
                 & zeros_at(p, 8)
         }
-        Family::Unknown => false,
+        None => false,
     }
 }
 

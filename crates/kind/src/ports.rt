@@ -1,6 +1,6 @@
 // The ports of a kind, and their types.
 ghost use Rattle.std.specs.Prelude.{◌≡◌};
-ghost use Rattle.kind.specs.Ports.{ports_in_of, ports_in, ports_out_of, ports_out, arithmetic_in, arithmetic_out};
+ghost use Rattle.kind.specs.Ports.{ports_in_of, ports_in, ports_out_of, ports_out};
 ghost use Rattle.kind.specs.Ports.{type_in_of, type_in, type_out_of, type_out};
 
 use crate::kinds::family_of;
@@ -8,25 +8,14 @@ use crate::parameters::{first_type, output_type, second_type};
 use crate::{BOOL, Family};
 
 // How many input ports a family has, and how many output ports.
-fn ports_in_of(family: Family) -> u8
-    ensures { result ≡ ports_in_of family }
+fn ports_of(family: Option<Family>) -> (u8, u8)
+    ensures { result ≡ record { 0 = ports_in_of family; 1 = ports_out_of family } }
 {
     match family {
-        Family::Decouple => 8,
-        Family::Twohand => 4,
-        Family::Arithmetic => 2,
-        Family::Unknown => 0,
-    }
-}
-
-fn ports_out_of(family: Family) -> u8
-    ensures { result ≡ ports_out_of family }
-{
-    match family {
-        Family::Decouple => 8,
-        Family::Twohand => 2,
-        Family::Arithmetic => 2,
-        Family::Unknown => 0,
+        Some(Family::Decouple) => (8, 8),
+        Some(Family::Twohand) => (4, 2),
+        Some(Family::Arithmetic) => (2, 2),
+        None => (0, 0),
     }
 }
 
@@ -34,54 +23,33 @@ fn ports_out_of(family: Family) -> u8
 pub fn ports_in(kind: u8) -> u8
     ensures { result ≡ ports_in kind }
 {
-    ports_in_of(family_of(kind))
+    ports_of(family_of(kind)).0
 }
 
 pub fn ports_out(kind: u8) -> u8
     ensures { result ≡ ports_out kind }
 {
-    ports_out_of(family_of(kind))
-}
-
-// The type of an input port of arithmetic, and of an output port.
-fn arithmetic_in(p: &[u8], port: u8) -> u8
-    ensures { result ≡ arithmetic_in p.now port }
-{
-    if port == 0 {
-        return first_type(p);
-    }
-    second_type(p)
-}
-
-fn arithmetic_out(p: &[u8], port: u8) -> u8
-    ensures { result ≡ arithmetic_out p.now port }
-{
-    if port == 0 {
-        return BOOL;
-    }
-    output_type(p)
+    ports_of(family_of(kind)).1
 }
 
 // The type of an input port of a family, and of an output port.
-fn type_in_of(family: Family, p: &[u8], port: u8) -> u8
+fn type_in_of(family: Option<Family>, p: &[u8], port: u8) -> u8
     ensures { result ≡ type_in_of family p.now port }
 {
-    match family {
-        Family::Decouple => BOOL,
-        Family::Twohand => BOOL,
-        Family::Arithmetic => arithmetic_in(p, port),
-        Family::Unknown => BOOL,
+    match (family, port) {
+        (Some(Family::Arithmetic), 0) => first_type(p),
+        (Some(Family::Arithmetic), _) => second_type(p),
+        (Some(Family::Decouple | Family::Twohand) | None, _) => BOOL,
     }
 }
 
-fn type_out_of(family: Family, p: &[u8], port: u8) -> u8
+fn type_out_of(family: Option<Family>, p: &[u8], port: u8) -> u8
     ensures { result ≡ type_out_of family p.now port }
 {
-    match family {
-        Family::Decouple => BOOL,
-        Family::Twohand => BOOL,
-        Family::Arithmetic => arithmetic_out(p, port),
-        Family::Unknown => BOOL,
+    match (family, port) {
+        (Some(Family::Arithmetic), 0) => BOOL,
+        (Some(Family::Arithmetic), _) => output_type(p),
+        (Some(Family::Decouple | Family::Twohand) | None, _) => BOOL,
     }
 }
 

@@ -5,110 +5,99 @@
 // output type. A vector that is broken off ends the run.
 #![tactic(auto)]
 
-ghost use Rattle.std.specs.Prelude.{◌≤◌, length};
+use numbers::{NumType, Op, OutOfRange, Rounding, Signed};
 
-use numbers::{NumType, Op, Outcome};
-
-// The file descriptor of standard input.
+// The file descriptors of standard input and output. (The crate `io` reads many vectors at once into fixed memory and
+// says how many bytes came, also where the input ends; `read_exact` of `std::io` does not say it.)
 const STDIN_FILENO: i32 = 0;
 
-// The file descriptor of standard output.
 const STDOUT_FILENO: i32 = 1;
 
-// The operation that a vector's first byte names.
+const VECTOR_SIZE: usize = 12;
+
+// The bytes of 186 vectors.
+const ROOM: usize = 2232;
+
+// The operation that a vector's first byte names. (A `From` would stand in `numbers`, whose `Op` it is; the byte is the
+// vectors' own.)
 fn op_of(b: u8) -> Op {
     match b {
         0 => Op::Add,
         1 => Op::Sub,
         2 => Op::Mul,
-        _ => Op::Div(numbers::rounding_of(b - 3)),
+        _ => Op::Div(Rounding::from(b - 3)),
     }
 }
 
-// The word of four bytes, the least first.
-fn word(b0: u8, b1: u8, b2: u8, b3: u8) -> u32 {
-    (b0 as u32) + 256 * (b1 as u32) + 65536 * (b2 as u32) + 16777216 * (b3 as u32)
+// What the block of a vector gives, in the output's type.
+fn result_of(v: &[u8]) -> Result<Signed, OutOfRange> {
+    let op = op_of(wire::byte(v, 0));
+    let ta = NumType::from(wire::byte(v, 1));
+    let tb = NumType::from(wire::byte(v, 2));
+    let t = NumType::from(wire::byte(v, 3));
+    let w = numbers::compute(op, ta, wire::read32(v, 4), tb, wire::read32(v, 8), t)?;
+    Ok(t.load(w))
 }
 
-// Copies text to out from index at on, as far as there is room, and answers the index behind it.
-fn append(text: &[u8], out: &mut [u8], at: usize) -> usize {
-    let mut i = 0;
-    let mut to = at;
-    while i < text.len() {
-        if out.len() <= to {
-            return to;
+// Lines in the making, in fixed memory. One has at most 22 bytes, so that those of 186 vectors have room.
+#[derive(Drop)]
+struct Lines {
+    text: [u8; 4096],
+    used: usize,
+}
+
+impl Lines {
+    // Text behind what there is, as far as there is room.
+    fn append(&mut self, text: &[u8]) {
+        wire::put(&mut self.text, self.used, text);
+        self.used = self.used.saturating_add(text.len()).min(self.text.len());
+    }
+
+    fn append_number(&mut self, n: Signed) {
+        if n.neg {
+            self.append(b"-");
         }
-        out[to] = text[i];
-        i += 1;
-        to += 1;
+        let mut digits = [0u8; 20];
+        let k = io::decimal(n.mag, &mut digits);
+        self.append(&digits[..k]);
+        self.append(b"\n");
     }
-    to
-}
 
-// The sign of a number, where it has one.
-fn sign(neg: bool, out: &mut [u8], at: usize) -> usize {
-    if neg { append(b"-", out, at) } else { at }
-}
+    fn append_line(&mut self, gives: Result<Signed, OutOfRange>) {
+        match gives {
+            Err(OutOfRange::Below) => self.append(b"below\n"),
+            Err(OutOfRange::Above) => self.append(b"above\n"),
+            Ok(n) => self.append_number(n),
+        }
+    }
 
-// The line of a word of type t.
-fn number_line(t: NumType, w: u32, out: &mut [u8], at: usize) -> usize {
-    let v = numbers::load(t, w);
-    let mut text = [0u8; 20];
-    let k = io::decimal(v.mag, &mut text);
-    let start = sign(v.neg, out, at);
-    let end = append(&text[..k], out, start);
-    append(b"\n", out, end)
-}
-
-// The line of one vector.
-fn line(v: &[u8], out: &mut [u8], at: usize) -> usize
-    requires { 12 ≤ length v.now }
-{
-    let ta = numbers::type_of(v[1]);
-    let tb = numbers::type_of(v[2]);
-    let t = numbers::type_of(v[3]);
-    let a = word(v[4], v[5], v[6], v[7]);
-    let b = word(v[8], v[9], v[10], v[11]);
-    match numbers::compute(op_of(v[0]), ta, a, tb, b, t) {
-        Outcome::Below => append(b"below\n", out, at),
-        Outcome::Above => append(b"above\n", out, at),
-        Outcome::Value(w) => number_line(t, w, out, at),
+    fn print(&self) {
+        if let Some(lines) = self.text.get(..self.used) {
+            io::write_all(STDOUT_FILENO, lines);
+        }
     }
 }
 
-// The lines of all whole vectors, in out; answers how long they are.
-fn lines(vectors: &[u8], out: &mut [u8]) -> usize {
-    let mut done = 0;
-    let mut at = 0;
-    while 12 <= vectors.len() - done {
-        at = line(&vectors[done..], out, at);
-        done += 12;
-    }
-    at
-}
-
-// Writes the first bytes of a buffer to standard output.
-fn print(out: &[u8], used: usize) {
-    if used <= out.len() {
-        io::write_all(STDOUT_FILENO, &out[0..used]);
-    }
-}
-
-// Reads up to 186 vectors, prints their lines with one write, and answers whether there may be more. A line is at most
-// 22 bytes long, so that the lines have room.
+// Reads up to 186 vectors, prints their lines with one write, and answers whether there may be more.
 fn some() -> bool {
-    let mut vectors = [0u8; 2232];
+    let mut vectors = [0u8; ROOM];
     let n = io::read_full(STDIN_FILENO, &mut vectors);
-    let mut out = io::buffer();
-    let used = lines(&vectors[..n], &mut out);
-    print(&out, used);
-    n == 2232
+    let mut lines = Lines {
+        text: io::buffer(),
+        used: 0,
+    };
+    for v in vectors[..n].chunks_exact(VECTOR_SIZE) {
+        lines.append_line(result_of(v));
+    }
+    lines.print();
+    n == ROOM
 }
 
-// Nothing says that the input ends, so the loop counts its turns down, from a number that no run uses up.
+// Nothing says that the input ends, so the turns are counted, up to a number that no run reaches.
 fn main() {
-    let mut turns = u64::MAX;
-    while turns > 0 && some() {
-        turns -= 1;
+    for _ in 0..u64::MAX {
+        if !some() {
+            return;
+        }
     }
 }

@@ -2,7 +2,8 @@
 -- quotient, and the definitions of `specs/` at a sign and a magnitude. Every law is by cases on the signs. Assumes
 -- nothing.
 use mathlib.Core.Path.{◌≡◌, refl, sym, ap, ◌∙◌, subst⁻¹}
-use mathlib.Core.Bool.{Bool, true, false, not}
+use mathlib.Core.Bool.{Bool, true, false, not, beq, cond}
+use mir.Val.{bool_byte as from_bool}
 use Prim.Native.Nat.{ℕ, zero, suc, ◌+◌, ◌-◌, ◌*◌, ◌/◌, ◌%◌, ◌^◌, ◌≤◌, ◌<◌, zero-le}
 use native.Mathlib.Nat.{mul-zero, zero-mul, add-zero, sub-zero, le_of_lt, lt_of_le_of_lt, mul-le-mul_left}
 use native.Mathlib.Nat.{mul-lt-mul_of_pos_right, zero-div, zero-mod, not-suc-le-zero}
@@ -20,7 +21,8 @@ use Rattle.numbers.specs.declared.Rounding.TheVariants.{Floor, Ceil, Round}
 use Rattle.numbers.specs.declared.Signed.{Signed}
 use Rattle.numbers.specs.declared.NumType.{NumType}
 use Rattle.numbers.specs.declared.NumType.TheVariants.{Int16, Uint16, Int32, Uint32}
-use Rattle.numbers.specs.declared.Outcome.TheVariants.{Below, Above, Value}
+use Rattle.numbers.specs.declared.OutOfRange.TheVariants.{Below, Above}
+use Rattle.std.proofs.Common.{Ok, Err}
 
 -- ---- sign and magnitude of a number
 
@@ -150,22 +152,22 @@ pub word_neg : (m : ℕ) → m ≤ 4294967296 → word_of (neg_ℤ (pos m)) ≡ 
 word_neg zero h = refl
 word_neg (suc m) h = omega arith
 
-pub settles_below : (t : NumType) (m : ℕ) → under t < m → Below ≡ settled t (neg_ℤ (pos m))
+pub settles_below : (t : NumType) (m : ℕ) → under t < m → Err Below ≡ settled t (neg_ℤ (pos m))
 unfolding settled
 settles_below t m h = rw (neg_less m (under t), lt-ltb (under t) m h)
 
-pub settles_neg : (t : NumType) (m : ℕ) → m ≤ under t → Value ((4294967296 - m) % 4294967296)
+pub settles_neg : (t : NumType) (m : ℕ) → m ≤ under t → Ok ((4294967296 - m) % 4294967296)
     ≡ settled t (neg_ℤ (pos m))
 unfolding settled
 settles_neg t m h =
     rw (neg_less m (under t), le-ltb (under t) m h, not_less (over t) m)
-    (ap Value (sym (word_neg m (omega (arith, under_small t)))))
+    (ap Ok (sym (word_neg m (omega (arith, under_small t)))))
 
-pub settles_above : (t : NumType) (m : ℕ) → over t < m → Above ≡ settled t (pos m)
+pub settles_above : (t : NumType) (m : ℕ) → over t < m → Err Above ≡ settled t (pos m)
 unfolding settled
 settles_above t m h = rw (not_less m (under t), lt-ltb (over t) m h)
 
-pub settles_pos : (t : NumType) (m : ℕ) → m ≤ over t → Value m ≡ settled t (pos m)
+pub settles_pos : (t : NumType) (m : ℕ) → m ≤ over t → Ok m ≡ settled t (pos m)
 unfolding settled
 settles_pos t m h = rw (not_less m (under t), le-ltb (over t) m h)
 
@@ -197,12 +199,19 @@ unfolding quotient
 by_zero r a false = refl
 by_zero r a true = refl
 
-pub rounded_up : (r : Rounding) (n : Bool) (m d : ℕ) → away r n (m % d) d ≡ true →
-    sgn n (m / d + 1) ≡ rounded_div r n m d
+-- the quotient with its fraction cut off, and one more where it is rounded away from 0
+pub rounded : (r : Rounding) (n : Bool) (m d k : ℕ) → k ≡ from_bool (away r n (m % d) d) →
+    sgn n (m / d + k) ≡ rounded_div r n m d
 unfolding rounded_div
-rounded_up r n m d e = rw e
+rounded r n m d k e = rw e (go (away r n (m % d) d))
+  where
+    go : (b : Bool) → sgn n (m / d + from_bool b) ≡ sgn n (m / d + cond b 1 0)
+    go true = refl
+    go false = refl
 
-pub rounded_cut : (r : Rounding) (n : Bool) (m d : ℕ) → away r n (m % d) d ≡ false →
-    sgn n (m / d) ≡ rounded_div r n m d
-unfolding rounded_div
-rounded_cut r n m d e = rw (e, add-zero (m / d))
+-- whether two signs differ, as the code asks it
+pub not_same : (s t : Bool) → not (beq s t) ≡ differ s t
+not_same true true = refl
+not_same true false = refl
+not_same false true = refl
+not_same false false = refl

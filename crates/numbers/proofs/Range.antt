@@ -19,8 +19,9 @@ use Rattle.numbers.specs.Results.{exact, settled, outcome}
 use Rattle.numbers.specs.declared.NumType.{NumType}
 use Rattle.numbers.specs.declared.NumType.TheVariants.{Int16, Uint16, Int32, Uint32}
 use Rattle.numbers.specs.declared.Op.{Op}
-use Rattle.numbers.specs.declared.Outcome.{Outcome}
-use Rattle.numbers.specs.declared.Outcome.TheVariants.{Below, Above, Value}
+use Rattle.numbers.specs.declared.OutOfRange.{OutOfRange}
+use Rattle.numbers.specs.declared.OutOfRange.TheVariants.{Below, Above}
+use Rattle.std.proofs.Common.{Result, Ok, Err}
 
 -- ---- the type's reach and 2 ^ 31
 
@@ -138,61 +139,61 @@ not_less_than : {a b : ℤ} → b ≤ℤ a → lt_z a b ≡ false
 not_less_than {a} {b} h = is_false (lt_z a b) (λ p. clash_ℤ {a = a} {b = b} (lt_z_yes p) h)
 
 -- what is below the type is Below
-pub settled_below : (t : NumType) (z : ℤ) → z <ℤ lo t → settled t z ≡ Below
+pub settled_below : (t : NumType) (z : ℤ) → z <ℤ lo t → settled t z ≡ Err Below
 unfolding settled
 settled_below t z l = rw (less l)
 
 -- what is above the type is Above
-pub settled_above : (t : NumType) (z : ℤ) → hi t <ℤ z → settled t z ≡ Above
+pub settled_above : (t : NumType) (z : ℤ) → hi t <ℤ z → settled t z ≡ Err Above
 unfolding settled
 settled_above t (pos n) h = rw (not_less n (under t), less h)
 settled_above t (negsuc n) h = absurd h.lt
 
 -- what the type holds is stored
-pub settled_inside : (t : NumType) (z : ℤ) → lo t ≤ℤ z → z ≤ℤ hi t → settled t z ≡ Value (word_of z)
+pub settled_inside : (t : NumType) (z : ℤ) → lo t ≤ℤ z → z ≤ℤ hi t → settled t z ≡ Ok (word_of z)
 unfolding settled
 settled_inside t z l h = rw (not_less_than l, not_less_than h)
 
 -- where a number stands, by its outcome
-data Place (t : NumType) (z : ℤ) : Outcome → Type 0 where
-  below : z <ℤ lo t → Place t z Below
-  above : hi t <ℤ z → Place t z Above
-  within : lo t ≤ℤ z → z ≤ℤ hi t → Place t z (Value (word_of z))
+data Place (t : NumType) (z : ℤ) : Result ℕ OutOfRange → Type 0 where
+  below : z <ℤ lo t → Place t z (Err Below)
+  above : hi t <ℤ z → Place t z (Err Above)
+  within : lo t ≤ℤ z → z ≤ℤ hi t → Place t z (Ok (word_of z))
 
 placed : (t : NumType) (z : ℤ) → Place t z (settled t z)
 unfolding settled
 placed t z = pick (lt_z z (lo t)) (lt_z (hi t) z) refl refl
   where
     pick : (a b : Bool) → lt_z z (lo t) ≡ a → lt_z (hi t) z ≡ b →
-        Place t z (cond a Below (cond b Above (Value (word_of z))))
+        Place t z (cond a (Err Below) (cond b (Err Above) (Ok (word_of z))))
     pick true b p q = below (lt_z_yes (rw p tt))
     pick false true p q = above (lt_z_yes (rw q tt))
     pick false false p q = within (lt_z_no (rw p tt)) (lt_z_no (rw q tt))
 
 -- and nothing else is Below
-pub below_only : (t : NumType) (z : ℤ) → settled t z ≡ Below → z <ℤ lo t
+pub below_only : (t : NumType) (z : ℤ) → settled t z ≡ Err Below → z <ℤ lo t
 below_only t z e = at (subst (Place t z) e (placed t z))
   where
-    at : Place t z Below → z <ℤ lo t
+    at : Place t z (Err Below) → z <ℤ lo t
     at (below h) = h
 
 -- and nothing else is Above
-pub above_only : (t : NumType) (z : ℤ) → settled t z ≡ Above → hi t <ℤ z
+pub above_only : (t : NumType) (z : ℤ) → settled t z ≡ Err Above → hi t <ℤ z
 above_only t z e = at (subst (Place t z) e (placed t z))
   where
-    at : Place t z Above → hi t <ℤ z
+    at : Place t z (Err Above) → hi t <ℤ z
     at (above h) = h
 
 -- where a result is given, the word's number is the result and the word is one of its type
-pub settled-value : (t : NumType) (z : ℤ) (w : ℕ) → settled t z ≡ Value w → Stored t z w
+pub settled-value : (t : NumType) (z : ℤ) (w : ℕ) → settled t z ≡ Ok w → Stored t z w
 settled-value t z w e = at w (subst (Place t z) e (placed t z))
   where
-    at : (w : ℕ) → Place t z (Value w) → Stored t z w
+    at : (w : ℕ) → Place t z (Ok w) → Stored t z w
     at w (within l h) = stored_word t z l h
 
 -- the same of a block's result
 pub outcome-value : (op : Op) (ta : NumType) (a : ℕ) (tb : NumType) (b : ℕ) (t : NumType) (w : ℕ) →
-    outcome op ta a tb b t ≡ Value w → Stored t (exact op (value ta a) (value tb b)) w
+    outcome op ta a tb b t ≡ Ok w → Stored t (exact op (value ta a) (value tb b)) w
 unfolding outcome
 outcome-value op ta a tb b t w e = settled-value t (exact op (value ta a) (value tb b)) w e
 
@@ -232,13 +233,13 @@ words_of t w h = pick (is_signed t && leb 2147483648 w) refl
         (λ k. omega (arith, under_small t)) (λ k. omega (arith, under_small t)))
 
 -- a well-formed word's number is stored as that word
-pub stored_again : (t : NumType) (w : ℕ) → inside t w ≡ true → w < 2 ^ 32 → settled t (value t w) ≡ Value w
+pub stored_again : (t : NumType) (w : ℕ) → inside t w ≡ true → w < 2 ^ 32 → settled t (value t w) ≡ Ok w
 unfolding inside
 stored_again t w f h =
     let z = value t w in
     let l : lo t ≤ℤ z = le_z_yes (rw (and_left (le_z (lo t) z) (le_z z (hi t)) f) tt) in
     let u : z ≤ℤ hi t = le_z_yes (rw (and_right (le_z (lo t) z) (le_z z (hi t)) f) tt) in
-    settled_inside t z l u ∙ ap Value (value_word t w h)
+    settled_inside t z l u ∙ ap Ok (value_word t w h)
 
 -- 0 and 1 are numbers of every type
 one_over : (t : NumType) → 1 ≤ over t

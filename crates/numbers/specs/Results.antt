@@ -3,7 +3,7 @@
 -- `/` and `%` cut, and `-` stops at 0, which the divisor less its remainder does not reach. 001, 4.16 to 4.19, and
 -- where it is silent 01, "Arithmetic.". Assumes nothing.
 use Rattle.std.specs.Prelude.{ℕ, ◌+◌, ◌-◌, ◌/◌, ◌%◌, Bool, true, false, cond, not, ◌&&◌, ltb, leb, eqb, ℤ, pos}
-use Rattle.std.specs.Prelude.{nat_abs, ◌+ℤ◌, ◌-ℤ◌, ◌*ℤ◌}
+use Rattle.std.specs.Prelude.{nat_abs, ◌+ℤ◌, ◌-ℤ◌, ◌*ℤ◌, Result, Ok, Err}
 use Rattle.std.specs.Int.Signed.{lt_z}
 use Rattle.numbers.specs.Types.{lo, hi, value, word_of, sgn, is_neg}
 use Rattle.numbers.specs.declared.NumType.{NumType}
@@ -11,8 +11,8 @@ use Rattle.numbers.specs.declared.Rounding.{Rounding}
 use Rattle.numbers.specs.declared.Rounding.TheVariants.{Floor, Ceil, Round}
 use Rattle.numbers.specs.declared.Op.{Op}
 use Rattle.numbers.specs.declared.Op.TheVariants.{Add, Sub, Mul, Div}
-use Rattle.numbers.specs.declared.Outcome.{Outcome}
-use Rattle.numbers.specs.declared.Outcome.TheVariants.{Below, Above, Value}
+use Rattle.numbers.specs.declared.OutOfRange.{OutOfRange}
+use Rattle.numbers.specs.declared.OutOfRange.TheVariants.{Below, Above}
 
 -- ---- the quotient
 
@@ -55,11 +55,11 @@ exact (Div r) a b = quotient r a b
 
 -- An exact result in an output of type t: below the type, above it, or the word that stores it. 01, "Arithmetic.";
 -- underflow and overflow of 001, 4.16.2.
-unfoldable pub settled : NumType → ℤ → Outcome
-settled t z = cond (lt_z z (lo t)) Below (cond (lt_z (hi t) z) Above (Value (word_of z)))
+unfoldable pub settled : NumType → ℤ → Result ℕ OutOfRange
+settled t z = cond (lt_z z (lo t)) (Err Below) (cond (lt_z (hi t) z) (Err Above) (Ok (word_of z)))
 
 -- The block: two words of their types, the output's type. 01, "Arithmetic.".
-unfoldable pub outcome : Op → NumType → ℕ → NumType → ℕ → NumType → Outcome
+unfoldable pub outcome : Op → NumType → ℕ → NumType → ℕ → NumType → Result ℕ OutOfRange
 outcome op ta a tb b t = settled t (exact op (value ta a) (value tb b))
 
 -- ---- the numbers of the file, the state and the findings
@@ -70,10 +70,10 @@ unfoldable pub rounding_of : ℕ → Rounding
 rounding_of b = cond (eqb b 0) Floor (cond (eqb b 1) Ceil Round)
 
 -- The diagnosis: 1 below, 2 above, 0 where the output is right. 01, "Arithmetic."; 001, 4.16.2, 4.17.2, 4.18.2, 4.19.2.
-abbrev pub diagnosis : Outcome → ℕ
-diagnosis Below = 1
-diagnosis Above = 2
-diagnosis (Value w) = 0
+abbrev pub diagnosis : Result ℕ OutOfRange → ℕ
+diagnosis (Err Below) = 1
+diagnosis (Err Above) = 2
+diagnosis (Ok w) = 0
 
 -- The text ID of a diagnosis, 0 where it has none. 01, "Arithmetic."; 001 has the two for all four blocks: 4.16.2,
 -- 4.17.2, 4.18.2, 4.19.2.

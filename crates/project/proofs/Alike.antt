@@ -2,20 +2,19 @@
 -- nothing.
 use Rattle.wire.proofs.Usual.{◌≡◌, sym, ap, ◌∙◌, ◌≢◌, List, ℕ, ◌+◌, ◌-◌, ◌*◌, ◌/◌, ◌<◌, ◌≤◌, dec_lt, arith}
 use Rattle.wire.proofs.Usual.{length, take, drop, length-drop}
+use Rattle.std.specs.Prelude.{None}
 use Prim.Native.Nat.{min}
 use lib.ListN.{length-take, get_or-eq_default}
 use lib.Seq.{ext_get_or, get_or-take, get_or-drop}
 use Rattle.wire.specs.Words.{byte_at}
-use Rattle.project.specs.declared.Source.TheVariants.{Nothing}
 use Rattle.project.specs.Project.{Project, row_of, block_size, block_count, block_record, order_place}
 use Rattle.project.specs.Project.{parameter_start, parameter_count, link_start, link_size, link_count, parameters_in}
-use Rattle.project.specs.Project.{source_from}
-use Rattle.project.specs.Project.{link_in, kind_of, group_of, parameters_of, link_of}
+use Rattle.project.specs.Project.{source_from, link_in, kind_of, group_of, parameters_of, link_of}
 use Rattle.project.specs.Alike.{Alike}
 use Rattle.project.proofs.Records.{row_byte}
 
 -- a block's record has no link past its last
-pub past_links : (B : List ℕ) (b p : ℕ) → link_count ≤ p → link_of B b p ≡ Nothing
+pub past_links : (B : List ℕ) (b p : ℕ) → link_count ≤ p → link_of B b p ≡ None
 unfolding link_in row_of
 past_links B b p l = rw past
   where

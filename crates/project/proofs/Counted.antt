@@ -1,25 +1,11 @@
 -- The counts of a project, field by field, and the size of its cycle record. Assumes nothing.
-use Rattle.wire.proofs.Usual.{◌≡◌, refl, ap, Bool, true, false, cond, ◌&&◌, List, ℕ, ◌<◌, ◌≤◌, arith, length}
-use borrow.Author.Tests.{le-leb, lt-leb}
-use lib.Dec.{leb}
+use Rattle.wire.proofs.Usual.{◌≡◌, ap, List, ℕ, ◌≤◌, arith, length}
+use borrow.Author.Tests.{le-leb}
 use Rattle.project.specs.declared.Counts.{Counts}
 use Rattle.project.specs.Project.{device, group_count, input_count, block_count, output_count, record_size, file_most}
 use Rattle.project.specs.Project.{size_counted, counts_of}
 
 module _ (G I : List ℕ) where
-  -- bodies that are too long, and bodies that are not
-  pub groups_too_long : file_most < length G → 0 ≡ size_counted G I
-  unfolding size_counted
-  groups_too_long l = rw (lt-leb (length G) file_most l)
-
-  pub inputs_too_long : file_most < length I → 0 ≡ size_counted G I
-  unfolding size_counted
-  inputs_too_long l = rw (lt-leb (length I) file_most l) (go (leb (length G) file_most))
-    where
-      go : (b : Bool) → 0 ≡ cond (b && false) (record_size G I) 0
-      go true = refl
-      go false = refl
-
   pub size_counted_is : length G ≤ file_most → length I ≤ file_most → size_counted G I ≡ record_size G I
   unfolding size_counted
   size_counted_is l m = rw (le-leb (length G) file_most l, le-leb (length I) file_most m)

@@ -1,6 +1,6 @@
 -- When two projects differ in the order of execution alone, and not along links (01, "What the reviewer must be able to
 -- rely on", demand 3).
-use Rattle.std.specs.Prelude.{ℕ, ◌+◌, ◌*◌, ◌<◌, ◌≡◌, ◌↔◌, length}
+use Rattle.std.specs.Prelude.{ℕ, ◌+◌, ◌*◌, ◌<◌, ◌≡◌, ◌↔◌, length, Some}
 use Rattle.wire.specs.Words.{byte_at}
 use Rattle.project.specs.declared.Source.TheVariants.{Output}
 use Rattle.project.specs.Project.{Project, block_size, block_count, order_place, order_of, link_of}
@@ -20,5 +20,5 @@ pub record Alike (P P' : Project) : Type 0 where
       (i : ℕ) → ((b : ℕ) → b < block_count P.blocks → IsOrderByte b i → ⊥) →
       byte_at P.blocks i ≡ byte_at P'.blocks i
   pub along :
-      (b p a q : ℕ) → b < block_count P.blocks → link_of P.blocks b p ≡ Output a q →
+      (b p a q : ℕ) → b < block_count P.blocks → link_of P.blocks b p ≡ Some (Output a q) →
       (order_of P.blocks a < order_of P.blocks b) ↔ (order_of P'.blocks a < order_of P'.blocks b)

@@ -1,11 +1,11 @@
 -- A project is its four bodies (01, "The case file"): G, I, B and O, each a list of bytes. A definition reads the
 -- bodies that it names and no others, and is total, since a byte past the end reads as 0.
 use Rattle.std.specs.Prelude.{ℕ, ◌+◌, ◌-◌, ◌*◌, ◌/◌, Bool, true, false, cond, not, ◌&&◌, List, eqb, leb, length, take}
-use Rattle.std.specs.Prelude.{drop}
+use Rattle.std.specs.Prelude.{drop, Option, Some, None}
 use Rattle.wire.specs.Words.{byte_at}
 use Rattle.wire.specs.Places.{first_bad}
 use Rattle.project.specs.declared.Source.{Source}
-use Rattle.project.specs.declared.Source.TheVariants.{Nothing, External, Output}
+use Rattle.project.specs.declared.Source.TheVariants.{External, Output}
 use Rattle.project.specs.declared.Counts.{Counts}
 
 -- 01, "The case file": G, I, B and O
@@ -106,15 +106,15 @@ abbrev pub link_port_in : List ℕ → ℕ → ℕ
 link_port_in R p = byte_at R (link_start + link_size * p + 2)
 
 -- 01, "The case file", Link: what the three bytes name; a kind that is unknown names nothing
-abbrev pub pick : Bool → Source → Source → Source
+abbrev pub pick : Bool → Option Source → Option Source → Option Source
 pick true s t = s
 pick false s t = t
 
-abbrev pub source_from : ℕ → ℕ → ℕ → Source
-source_from k i q = pick (eqb k 1) (External i) (pick (eqb k 2) (Output i q) Nothing)
+abbrev pub source_from : ℕ → ℕ → ℕ → Option Source
+source_from k i q = pick (eqb k 1) (Some (External i)) (pick (eqb k 2) (Some (Output i q)) None)
 
 -- 01, "The case file", Link: what input port p of the block is linked to
-unfoldable pub link_in : List ℕ → ℕ → Source
+unfoldable pub link_in : List ℕ → ℕ → Option Source
 link_in R p = source_from (link_kind_in R p) (link_index_in R p) (link_port_in R p)
 
 -- the same of block b
@@ -130,7 +130,7 @@ order_of B b = order_in (block_record B b)
 abbrev pub parameters_of : List ℕ → ℕ → List ℕ
 parameters_of B b = parameters_in (block_record B b)
 
-abbrev pub link_of : List ℕ → ℕ → ℕ → Source
+abbrev pub link_of : List ℕ → ℕ → ℕ → Option Source
 link_of B b p = link_in (block_record B b) p
 
 -- 01, "Turned down", 6, and "One cycle": the block with the execution number e, the first whose number is not another

@@ -36,16 +36,15 @@ const LINK_SIZE: usize = 3;
 // No file is longer, so no body is.
 pub const FILE_MOST: usize = 65536;
 
-// What an input port is linked to: nothing, an external input, or a block's output port.
-#[derive(Clone, Copy)]
+// What an input port is linked to: an external input, or a block's output port.
+#[derive(Clone, Copy, Debug, PartialEq, Eq)]
 pub enum Source {
-    Nothing,
     External(u8),
     Output(u8, u8),
 }
 
 // The device, how many groups, external inputs, blocks and external outputs there are, and the size of a cycle record.
-#[derive(Clone, Copy)]
+#[derive(Clone, Copy, Debug, PartialEq, Eq)]
 pub struct Counts {
     pub device: u8,
     pub groups: usize,
@@ -55,33 +54,15 @@ pub struct Counts {
     pub size: usize,
 }
 
-// Record k of those of `size` bytes each, where size or k is a large number: the place of one far past the end is not
-// summed up.
-#[tactic(auto, unfolding(crate::specs::Project::row_of))]
-fn far_record(records: &[u8], size: usize, k: usize) -> &[u8]
-    ensures { result.now ≡ row_of size k records.now }
-{
-    if size == 0 {
-        return &records[..0];
-    }
-    if records.len() / size < k {
-        return &records[..0];
-    }
-    wire::part(records, size * k, size)
-}
-
-// Record k of those of `size` bytes each.
+// Record k of those of `size` bytes each. One whose place is too large a number is past the end.
 #[tactic(auto, unfolding(crate::specs::Project::row_of))]
 pub fn record_at(records: &[u8], size: usize, k: usize) -> &[u8]
     ensures { result.now ≡ row_of size k records.now }
 {
-    if FILE_MOST <= size {
-        return far_record(records, size, k);
+    match size.checked_mul(k) {
+        Some(at) => wire::part(records, at, size),
+        None => &records[..0],
     }
-    if FILE_MOST <= k {
-        return far_record(records, size, k);
-    }
-    wire::part(records, size * k, size)
 }
 
 // The device byte, the number of groups, and the byte of group g.
@@ -96,18 +77,17 @@ pub fn device_in(groups: &[u8]) -> u8
 pub fn group_count(groups: &[u8]) -> usize
     ensures { result ≡ group_count groups.now }
 {
-    let n = groups.len();
-    if n == 0 { 0 } else { n - 1 }
+    groups.len().saturating_sub(1)
 }
 
 #[tactic(auto, unfolding(crate::specs::Project::run_linked))]
 pub fn run_linked(groups: &[u8], g: usize) -> u8
     ensures { result ≡ run_linked groups.now g }
 {
-    if groups.len() <= g {
-        return 0;
+    match groups.split_first() {
+        Some((_, runs)) => wire::byte(runs, g),
+        None => 0,
     }
-    wire::byte(groups, 1 + g)
 }
 
 // The size of a cycle record; 0 for bodies that no file has.
@@ -115,13 +95,11 @@ pub fn run_linked(groups: &[u8], g: usize) -> u8
 fn size_counted(groups: &[u8], inputs: &[u8]) -> usize
     ensures { result ≡ size_counted groups.now inputs.now }
 {
-    if FILE_MOST < groups.len() {
-        return 0;
+    if (groups.len() <= FILE_MOST) & (inputs.len() <= FILE_MOST) {
+        HEAD_SIZE + group_count(groups) + WORD_SIZE * (inputs.len() / INPUT_SIZE)
+    } else {
+        0
     }
-    if FILE_MOST < inputs.len() {
-        return 0;
-    }
-    HEAD_SIZE + group_count(groups) + WORD_SIZE * (inputs.len() / INPUT_SIZE)
 }
 
 pub fn counts_of(groups: &[u8], inputs: &[u8], blocks: &[u8], outputs: &[u8]) -> Counts
@@ -138,7 +116,7 @@ pub fn counts_of(groups: &[u8], inputs: &[u8], blocks: &[u8], outputs: &[u8]) ->
     }
 }
 
-// The records of I, B and O.
+// The records of I, B and O: record_at by the body's name, so that none is read in another's size.
 pub fn input_record(inputs: &[u8], i: usize) -> &[u8]
     ensures { result.now ≡ row_of input_size i inputs.now }
 {
@@ -222,19 +200,18 @@ pub fn link_port(r: &[u8], port: u8) -> u8
 }
 
 #[tactic(auto, unfolding(crate::specs::Project::link_in))]
-pub fn source_of(r: &[u8], port: u8) -> Source
+pub fn source_of(r: &[u8], port: u8) -> Option<Source>
     ensures { result ≡ link_in r.now port }
 {
-    let kind = link_kind(r, port);
-    if kind == 1 {
-        return Source::External(link_index(r, port));
+    let index = link_index(r, port);
+    match link_kind(r, port) {
+        1 => Some(Source::External(index)),
+        2 => {
+            let target = link_port(r, port);
+            Some(Source::Output(index, target))
+        }
+        _ => None,
     }
-    if kind == 2 {
-        let index = link_index(r, port);
-        let target = link_port(r, port);
-        return Source::Output(index, target);
-    }
-    Source::Nothing
 }
 
 // The fields of an external output's record.

@@ -4,7 +4,7 @@
 -- Assumes nothing.
 use Rattle.wire.proofs.Usual.{◌≡◌, refl, sym, ap, ◌∙◌, List, [], ◌∷◌, ◌++◌, append-nil, ℕ, zero, suc, ◌+◌}
 use Rattle.wire.proofs.Usual.{◌-◌}
-use Rattle.wire.proofs.Usual.{◌*◌, ◌/◌, ◌%◌, ◌≤◌, ◌<◌, zero-add, dec_lt, arith, lt-ltb, length, length-append}
+use Rattle.wire.proofs.Usual.{◌*◌, ◌/◌, ◌%◌, ◌<◌, zero-add, dec_lt, arith, lt-ltb, length, length-append}
 use Prim.Native.Nat.{◌^◌}
 use native.Mathlib.Nat.{pow-succ', add-zero, add-suc, suc-add}
 use borrow.Author.Tests.{le-ltb}
@@ -21,21 +21,6 @@ hex_more n x = refl
 pub hex_none : (x : ℕ) → hexadecimal 0 x ≡ []
 unfolding hexadecimal
 hex_none x = refl
-
--- of the digits that go to the places from `at` on and before `to`, the last is d
-pub hex_last : {d : ℕ} (at to x : ℕ) → at < to → d ≡ hex_digit (x % 16) →
-    hexadecimal (to - at) x ≡ hexadecimal (to - 1 - at) (x / 16) ++ (d ∷ [])
-hex_last at to x h e =
-    let one : to - at ≡ suc (to - 1 - at) = omega arith in
-    ap (λ (n : ℕ). hexadecimal n x) one
-    ∙ hex_more (to - 1 - at) x
-    ∙ ap (λ (c : ℕ). hexadecimal (to - 1 - at) (x / 16) ++ (c ∷ [])) (sym e)
-
--- none go to places before the first
-pub hex_first : (at to x : ℕ) → to ≤ at → hexadecimal (to - at) x ≡ []
-hex_first at to x h =
-    let nought : to - at ≡ 0 = omega arith in
-    ap (λ (n : ℕ). hexadecimal n x) nought ∙ hex_none x
 
 -- ---- how many digits
 

@@ -4,3 +4,4 @@ pub mod Puts
 pub mod Lines
 pub mod Samples
 pub mod Parts
+pub mod Making

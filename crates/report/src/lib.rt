@@ -11,6 +11,7 @@ mod pieces;
 
 pub use ledger::{bend_line, no_rate_line, rate_line};
 use numbers::NumType;
+use pieces::Line;
 
 // No line has more bytes.
 pub const LINE_MOST: usize = 96;
@@ -30,34 +31,31 @@ pub fn finding_line(
     ensures { Printed (finding_line cycle block text diagnosis ta x tb y)
         out.old out.new result }
 {
-    wire::put(out, 0, b"finding");
-    let after_cycle = pieces::put_field(out, 7, cycle);
-    let after_block = pieces::put_field(out, after_cycle, block as u32);
-    let after_text = pieces::put_field(out, after_block, text as u32);
-    let after_diagnosis = pieces::put_field(out, after_text, diagnosis as u32);
-    let after_first = pieces::put_input(out, after_diagnosis, ta, x);
-    let after_second = pieces::put_input(out, after_first, tb, y);
-    pieces::put_byte(out, after_second, b'\n');
-    after_second + 1
+    let mut line = Line::begin(b"finding");
+    line.number(cycle);
+    line.number(u32::from(block));
+    line.number(u32::from(text));
+    line.number(u32::from(diagnosis));
+    line.input(ta, x);
+    line.input(tb, y);
+    line.print(out)
 }
 
 // The last line of a trace.
 pub fn end_line(out: &mut [u8], cycles: u32, findings: u32) -> usize
     ensures { Printed (end_line cycles findings) out.old out.new result }
 {
-    wire::put(out, 0, b"end");
-    let after_cycles = pieces::put_field(out, 3, cycles);
-    let after_findings = pieces::put_field(out, after_cycles, findings);
-    pieces::put_byte(out, after_findings, b'\n');
-    after_findings + 1
+    let mut line = Line::begin(b"end");
+    line.number(cycles);
+    line.number(findings);
+    line.print(out)
 }
 
 // The line of a refusal: the last of a trace that was refused, and the only one of a ledger.
 pub fn refused_line(out: &mut [u8], number: u8) -> usize
     ensures { Printed (refused_line number) out.old out.new result }
 {
-    wire::put(out, 0, b"refused");
-    let after_number = pieces::put_field(out, 7, number as u32);
-    pieces::put_byte(out, after_number, b'\n');
-    after_number + 1
+    let mut line = Line::begin(b"refused");
+    line.number(u32::from(number));
+    line.print(out)
 }

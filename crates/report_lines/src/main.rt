@@ -9,82 +9,82 @@
 
 ghost use Rattle.std.specs.Prelude.{◌≤◌};
 
-// The file descriptor of standard input.
+use numbers::NumType;
+
+// The file descriptors of standard input and output. (The crate `io` reads many records at once into fixed memory and
+// says how many bytes came, also where the input ends; `read_exact` of `std::io` does not say it.)
 const STDIN_FILENO: i32 = 0;
 
-// The file descriptor of standard output.
 const STDOUT_FILENO: i32 = 1;
 
-// The line of one record of the ledger program, in a buffer; answers how long it is.
-fn ledger_line(kind: u8, record: &[u8], out: &mut [u8]) -> usize
+const RECORD_SIZE: usize = 20;
+
+// The bytes of 200 records.
+const ROOM: usize = 4000;
+
+// The line of a finding's record, in a buffer; answers how long it is.
+fn finding_line(record: &[u8], out: &mut [u8]) -> usize
     ensures { result ≤ 96 }
 {
-    let month = wire::byte(record, 1);
-    let findings = wire::read32(record, 8);
-    let dismissed = wire::read32(record, 12);
-    if kind == 3 {
-        let bits = 4294967296 * (wire::read32(record, 16) as u64) + wire::read32(record, 4) as u64;
-        return report::rate_line(out, month, findings, dismissed, bits);
-    }
-    if kind == 4 {
-        return report::no_rate_line(out, month, findings, dismissed);
-    }
-    report::bend_line(out, month)
+    let ta = NumType::from(wire::byte(record, 2));
+    let tb = NumType::from(wire::byte(record, 3));
+    report::finding_line(
+        out,
+        wire::read32(record, 8),
+        wire::byte(record, 1),
+        wire::read16(record, 4),
+        wire::read16(record, 6),
+        ta,
+        wire::read32(record, 12),
+        tb,
+        wire::read32(record, 16),
+    )
 }
 
-// The line of one record of either program, likewise.
+// The bits of a rate.
+fn bits_of(record: &[u8]) -> u64 {
+    4294967296 * u64::from(wire::read32(record, 16)) + u64::from(wire::read32(record, 4))
+}
+
+// The line of a record, likewise.
 fn line(record: &[u8], out: &mut [u8]) -> usize
     ensures { result ≤ 96 }
 {
-    let kind = wire::byte(record, 0);
     let number = wire::byte(record, 1);
-    let cycle = wire::read32(record, 8);
-    let x = wire::read32(record, 12);
-    if kind == 0 {
-        let ta = numbers::type_of(wire::byte(record, 2));
-        let tb = numbers::type_of(wire::byte(record, 3));
-        let text = wire::read16(record, 4);
-        let diagnosis = wire::read16(record, 6);
-        let y = wire::read32(record, 16);
-        return report::finding_line(out, cycle, number, text, diagnosis, ta, x, tb, y);
+    let x = wire::read32(record, 8);
+    let y = wire::read32(record, 12);
+    match wire::byte(record, 0) {
+        0 => finding_line(record, out),
+        1 => report::end_line(out, x, y),
+        2 => report::refused_line(out, number),
+        3 => report::rate_line(out, number, x, y, bits_of(record)),
+        4 => report::no_rate_line(out, number, x, y),
+        _ => report::bend_line(out, number),
     }
-    if kind == 1 {
-        return report::end_line(out, cycle, x);
-    }
-    if kind == 2 {
-        return report::refused_line(out, number);
-    }
-    ledger_line(kind, record, out)
 }
 
 // Prints the line of one record.
 fn print(record: &[u8]) {
-    let mut out = [0u8; 96];
+    let mut out = [0u8; report::LINE_MOST];
     let used = line(record, &mut out);
     io::write_all(STDOUT_FILENO, &out[..used]);
 }
 
-// Prints the lines of all whole records.
-fn lines(records: &[u8]) {
-    let mut done = 0;
-    while 20 <= records.len() - done {
-        print(&records[done..]);
-        done += 20;
-    }
-}
-
 // Reads up to 200 records, prints their lines, and answers whether there may be more.
 fn some() -> bool {
-    let mut records = [0u8; 4000];
+    let mut records = [0u8; ROOM];
     let n = io::read_full(STDIN_FILENO, &mut records);
-    lines(&records[..n]);
-    n == 4000
+    for record in records[..n].chunks_exact(RECORD_SIZE) {
+        print(record);
+    }
+    n == ROOM
 }
 
-// Nothing says that the input ends, so the loop counts its turns down, from a number that no run uses up.
+// Nothing says that the input ends, so the turns are counted, up to a number that no run reaches.
 fn main() {
-    let mut turns = u64::MAX;
-    while turns > 0 && some() {
-        turns -= 1;
+    for _ in 0..u64::MAX {
+        if !some() {
+            return;
+        }
     }
 }

@@ -4,11 +4,11 @@ use Rattle.wire.proofs.Usual.{◌≡◌, refl, sym, ap, ◌∙◌, Bool, true, f
 use Rattle.wire.proofs.Usual.{◌+◌, ◌-◌, ◌≤◌, ◌<◌, arith, length, replicate, drop, length-replicate}
 use native.Mathlib.Nat.{sub-zero}
 use lib.Seq.{drop-drop}
-use Rattle.wire.specs.Tables.{first}
+use Rattle.std.specs.Prelude.{Result, Ok, Err}
 use Rattle.casefile.specs.Bodies.{project_of, record_count, record_of}
-use Rattle.casefile.specs.Refusal.{file_table}
-use Rattle.evaluator.specs.declared.Answer.{Answer}
-use Rattle.evaluator.specs.declared.Answer.TheVariants.{Findings, Refused}
+use Rattle.casefile.specs.Refusal.{verdict}
+use Rattle.evaluator.specs.declared.Refusal.{Refusal}
+use Rattle.evaluator.specs.declared.Refusal.TheVariants.{Record}
 use Rattle.evaluator.specs.State.{outputs_length, findings_length, state_formed}
 use Rattle.evaluator.specs.Cycle.{finding_count, new_findings}
 use Rattle.evaluator.specs.Answer.{Lent, Left, record_ok, sizes_ok, cycle_of}
@@ -18,9 +18,8 @@ use Rattle.evaluator.specs.Steps.{step_answer, step_state, step_findings}
 use Rattle.evaluator.proofs.FreshFormed.{fresh_length, fresh_state_formed}
 use Rattle.evaluator.proofs.Stepping.{Stepped, stepped, sizes_are}
 use Rattle.evaluator.proofs.Few.{few_found, none_found}
-use Rattle.tracer.specs.declared.End.{End}
-use Rattle.tracer.specs.declared.End.TheVariants.{Refused as Halted, Ran}
-use Rattle.tracer.specs.Traced.{records_from, fresh_lent, calls, goes_on, ended, run_end}
+use Rattle.tracer.specs.declared.Ran.{Ran}
+use Rattle.tracer.specs.Traced.{records_from, fresh_lent, calls, goes_on, all_ran, ended, run_end}
 use Rattle.tracer.specs.Text.{lines_of, texts_from, texts, Told}
 use Rattle.tracer.proofs.Starting.{taken_of}
 
@@ -39,7 +38,7 @@ pub formed_here : {F : List ℕ} {n k t : ℕ} {S : List ℕ} → Here F n k t S
 formed_here h = rw h.state h.formed
 
 -- at the start
-pub begins : (F : List ℕ) (n : ℕ) {S : List ℕ} → first (file_table F) ≡ 0 → n ≡ record_count F →
+pub begins : (F : List ℕ) (n : ℕ) {S : List ℕ} → verdict F ≡ Ok tt → n ≡ record_count F →
     S ≡ fresh_for (project_of F) → Here F n 0 0 S
 unfolding fresh_lent calls run_end texts
 begins F n z e s =
@@ -57,20 +56,20 @@ begins F n z e s =
     }
 
 -- after the last
-pub ran : {F : List ℕ} {n k t : ℕ} {S : List ℕ} → Here F n k t S → n ≤ k → Ran k t ≡ run_end F
+pub ran : {F : List ℕ} {n k t : ℕ} {S : List ℕ} → Here F n k t S → n ≡ k → all_ran n t ≡ run_end F
 unfolding ended run records_from
-ran {F} {n} {k} {t} h l = sym (ap (ended k t) none) ∙ h.ends
+ran {F} {n} {k} {t} h e = ap (λ (m : ℕ). all_ran m t) e ∙ sym (ap (ended k t) none) ∙ h.ends
   where
     none : drop k (calls F) ≡ []
     none =
-        let no : n - k ≡ 0 = omega arith in
+        let no : n - k ≡ 0 = omega (arith, e) in
         h.left ∙ ap (λ (m : ℕ). run F (records_from F k m) h.lent) no
 
 -- what the findings were before does not matter to a step that takes its record
-found_some : (b : Bool) (m : ℕ) {n : ℕ} → Findings n ≡ cond b (Findings m) (Refused 12) →
+found_some : (b : Bool) (m : ℕ) {n : ℕ} → Ok n ≡ cond b (Ok m) (Err Record) →
     (X D Y : List ℕ) → cond b X D ≡ cond b X Y
 found_some true m e X D Y = refl
-found_some false m e X D Y = let z : ◌≡◌ {A = ℕ} 0 1 = cc in absurd (omega arith)
+found_some false m e X D Y = absurd (cc)
 
 -- the call of cycle k, and what comes after it, where L is lent to it
 abbrev pub call : List ℕ → ℕ → Lent → Left
@@ -80,20 +79,20 @@ abbrev pub later : List ℕ → ℕ → ℕ → Lent → List Left
 later F n k L = run F (records_from F (k + 1) (n - (k + 1))) (call F k L).lent
 
 -- a step answered a, and left the state S and the findings D: what the call l does
-pub record Turned (l : Left) (a : Answer) (S D : List ℕ) : Type 0 where
+pub record Turned (l : Left) (a : Result ℕ Refusal) (S D : List ℕ) : Type 0 where
   pub answer : a ≡ l.answer
   pub state : S ≡ l.lent.state
-  pub findings : {m : ℕ} → a ≡ Findings m → D ≡ l.lent.findings
+  pub findings : {m : ℕ} → a ≡ Ok m → D ≡ l.lent.findings
 
 -- cycle k
-module _ {F : List ℕ} {n k t : ℕ} {S : List ℕ} (z : first (file_table F) ≡ 0) (h : Here F n k t S) where
+module _ {F : List ℕ} {n k t : ℕ} {S : List ℕ} (z : verdict F ≡ Ok tt) (h : Here F n k t S) where
   made : Stepped (project_of F) (record_of F k) h.lent (call F k h.lent)
   made = stepped F (record_of F k) h.lent z h.sizes h.formed
 
   -- by a step over bodies and a record that are the file's
   pub turned : {G I B R : List ℕ} → G ≡ (project_of F).groups → I ≡ (project_of F).inputs →
       B ≡ (project_of F).blocks →
-      R ≡ record_of F k → {a : Answer} {S1 D1 : List ℕ} (D : List ℕ) → a ≡ step_answer G I B R S →
+      R ≡ record_of F k → {a : Result ℕ Refusal} {S1 D1 : List ℕ} (D : List ℕ) → a ≡ step_answer G I B R S →
       S1 ≡ step_state G I B R S → D1 ≡ step_findings G I B R S D → Turned (call F k h.lent) a S1 D1
   unfolding step_answer step_findings
   turned {G} {I} {B} {R} g i b r D e s d = record {
@@ -116,26 +115,26 @@ module _ {F : List ℕ} {n k t : ℕ} {S : List ℕ} (h : Here F n k t S) (l : k
   rest = sym (drop-drop 1 k (calls F)) ∙ ap (drop 1) unrolled
 
   -- what the trace ends with, where the call answers a
-  abbrev end_by : Answer → End
-  end_by a = goes_on a Halted (λ x. ended (k + 1) (t + x) (later F n k h.lent))
+  abbrev end_by : Result ℕ Refusal → Result Ran Refusal
+  end_by a = goes_on a (λ r. Err r) (λ x. ended (k + 1) (t + x) (later F n k h.lent))
 
-  ends_by : {a : Answer} → a ≡ (call F k h.lent).answer → end_by a ≡ run_end F
+  ends_by : {a : Result ℕ Refusal} → a ≡ (call F k h.lent).answer → end_by a ≡ run_end F
   unfolding ended
   ends_by e = ap end_by e ∙ sym (ap (ended k t) unrolled) ∙ h.ends
 
   -- what is printed from this cycle on
-  abbrev texts_with : Answer → List (List ℕ)
+  abbrev texts_with : Result ℕ Refusal → List (List ℕ)
   texts_with a =
       let B = (project_of F).blocks in
       goes_on a (λ _. []) (λ m. lines_of B (k + 1) m (call F k h.lent).lent.findings
       ∷ texts_from B (k + 1) (later F n k h.lent))
 
-  texts_by : {a : Answer} → a ≡ (call F k h.lent).answer → drop k (texts F) ≡ texts_with a
+  texts_by : {a : Result ℕ Refusal} → a ≡ (call F k h.lent).answer → drop k (texts F) ≡ texts_with a
   unfolding texts_from
   texts_by e = h.told ∙ ap (texts_from (project_of F).blocks k) unrolled ∙ sym (ap texts_with e)
 
   -- the lines of a record that is taken
-  pub tells : {a : Answer} {m : ℕ} {S1 D1 B : List ℕ} → a ≡ Findings m →
+  pub tells : {a : Result ℕ Refusal} {m : ℕ} {S1 D1 B : List ℕ} → a ≡ Ok m →
       Turned (call F k h.lent) a S1 D1 → B ≡ (project_of F).blocks → {c : ℕ} → c ≡ k + 1 →
       Told F c (lines_of B c m D1)
   tells {m = m} e u b i =
@@ -148,20 +147,20 @@ module _ {F : List ℕ} {n k t : ℕ} {S : List ℕ} (h : Here F n k t S) (l : k
       }
 
   -- it has few findings, and where it has none zeros
-  pub finds_few : {a : Answer} {m : ℕ} {S1 D1 : List ℕ} → a ≡ Findings m →
+  pub finds_few : {a : Result ℕ Refusal} {m : ℕ} {S1 D1 : List ℕ} → a ≡ Ok m →
       Turned (call F k h.lent) a S1 D1 → m ≤ 64
   finds_few {m = m} e u = few_found F (record_of F k) h.lent m (sym e ∙ u.answer)
 
-  pub finds_none : {a : Answer} {m : ℕ} {S1 D1 : List ℕ} → a ≡ Findings m →
+  pub finds_none : {a : Result ℕ Refusal} {m : ℕ} {S1 D1 : List ℕ} → a ≡ Ok m →
       Turned (call F k h.lent) a S1 D1 → m ≡ 0 → D1 ≡ replicate (length D1) 0
   finds_none {D1 = D1} e u z =
       let n = findings_length (project_of F).blocks in
       let zeros : D1 ≡ replicate n 0 =
-      u.findings e ∙ none_found F (record_of F k) h.lent (sym (e ∙ ap Findings z) ∙ u.answer) in
+      u.findings e ∙ none_found F (record_of F k) h.lent (sym (e ∙ ap Ok z) ∙ u.answer) in
       zeros ∙ ap (λ (m : ℕ). replicate m 0) (sym (ap length zeros ∙ length-replicate {A = ℕ} n 0))
 
   -- a record that is taken
-  pub continues : first (file_table F) ≡ 0 → {a : Answer} {m : ℕ} {S1 D1 : List ℕ} → a ≡ Findings m →
+  pub continues : verdict F ≡ Ok tt → {a : Result ℕ Refusal} {m : ℕ} {S1 D1 : List ℕ} → a ≡ Ok m →
       Turned (call F k h.lent) a S1 D1 → Here F n (k + 1) (t + m) S1
   continues z {a} {m} e u = record {
     lent = (call F k h.lent).lent;
@@ -176,6 +175,6 @@ module _ {F : List ℕ} {n k t : ℕ} {S : List ℕ} (h : Here F n k t S) (l : k
   }
 
   -- one that is turned down
-  pub stops : {a : Answer} {m : ℕ} {S1 D1 : List ℕ} → a ≡ Refused m → Turned (call F k h.lent) a S1 D1 →
-      Halted m ≡ run_end F
+  pub stops : {a : Result ℕ Refusal} {r : Refusal} {S1 D1 : List ℕ} → a ≡ Err r → Turned (call F k h.lent) a S1 D1 →
+      Err r ≡ run_end F
   stops e u = ends_by (sym e ∙ u.answer)

@@ -1,32 +1,33 @@
 -- What a trace prints (01, "The trace program"): for each cycle the lines of its findings, and the last line. F is the
 -- file, B its body of blocks, c a cycle's number from 1, D the findings that a cycle left.
-use Rattle.std.specs.Prelude.{ℕ, zero, suc, ◌+◌, ◌≡◌, List, [], ◌∷◌, ◌++◌, drop}
+use Rattle.std.specs.Prelude.{ℕ, zero, suc, ◌+◌, ◌≡◌, List, [], ◌∷◌, ◌++◌, drop, Option, Some, None}
+use Rattle.std.specs.Prelude.{Result, Ok, Err}
 use Rattle.numbers.specs.Types.{type_of}
 use Rattle.numbers.specs.declared.NumType.{NumType}
 use Rattle.numbers.specs.declared.NumType.TheVariants.{Uint32}
 use Rattle.kind.specs.Kinds.{family_of}
 use Rattle.kind.specs.declared.Family.{Family}
-use Rattle.kind.specs.declared.Family.TheVariants.{Decouple, Twohand, Arithmetic, Unknown}
+use Rattle.kind.specs.declared.Family.TheVariants.{Decouple, Twohand, Arithmetic}
 use Rattle.kind.specs.Ports.{type_in}
 use Rattle.project.specs.Project.{row_of, kind_of, parameters_of}
 use Rattle.casefile.specs.Bodies.{project_of}
 use Rattle.block.specs.declared.FindingRecord.{FindingRecord}
 use Rattle.block.specs.Finding.{finding_size, finding_in}
-use Rattle.evaluator.specs.Answer.{Left}
+use Rattle.evaluator.specs.declared.Refusal.{Refusal}
+use Rattle.evaluator.specs.Answer.{Left, refusal_number}
 use Rattle.report.specs.Lines.{finding_line, end_line, refused_line}
-use Rattle.tracer.specs.declared.End.{End}
-use Rattle.tracer.specs.declared.End.TheVariants.{Refused, Ran}
+use Rattle.tracer.specs.declared.Ran.{Ran}
 use Rattle.tracer.specs.Traced.{calls, goes_on, end_of}
 
 -- ---- a line
 
 -- 01, "The trace program": inputs are signed by type. An arithmetic block's parameters have the types of its inputs;
 -- all else is unsigned (DECISIONS 24)
-abbrev pub shown_as : Family → ℕ → List ℕ → ℕ → NumType
-shown_as Decouple k P p = Uint32
-shown_as Twohand k P p = Uint32
-shown_as Arithmetic k P p = type_of (type_in k P p)
-shown_as Unknown k P p = Uint32
+abbrev pub shown_as : Option Family → ℕ → List ℕ → ℕ → NumType
+shown_as (Some Decouple) k P p = Uint32
+shown_as (Some Twohand) k P p = Uint32
+shown_as (Some Arithmetic) k P p = type_of (type_in k P p)
+shown_as None k P p = Uint32
 
 -- that of input port p of block b
 abbrev pub shown_type : List ℕ → ℕ → ℕ → NumType
@@ -44,9 +45,9 @@ lines_of B c zero D = []
 lines_of B c (suc k) D = lines_of B c k D ++ line_of B c (finding_in (row_of finding_size k D))
 
 -- 01, "The trace program": at the end `end`, cycles, findings; or `refused` and the number
-abbrev pub last_line : End → List ℕ
-last_line (Refused n) = refused_line n
-last_line (Ran cycles findings) = end_line cycles findings
+abbrev pub last_line : Result Ran Refusal → List ℕ
+last_line (Ok e) = end_line e.cycles e.findings
+last_line (Err r) = refused_line (refusal_number r)
 
 -- ---- all of them
 

@@ -8,12 +8,13 @@ ghost use Rattle.casefile.specs.Bodies.{project_of};
 ghost use Rattle.evaluator.specs.Fresh.{fresh_for};
 ghost use Rattle.tracer.specs.Traced.{run_end, end_of};
 ghost use Rattle.tracer.specs.Text.{lines_of, last_line, Told};
-ghost use Rattle.tracer.specs.Asks.{text_most, Started, Offered};
+ghost use Rattle.tracer.specs.Asks.{text_most, Started, Handed, Offered};
 
 mod lines;
 
 use block::{FINDING_SIZE, STATE_SIZE};
-use evaluator::{Answer, GROUPS_AT};
+use casefile::Bodies;
+use evaluator::{GROUPS_AT, Refusal};
 use project::Counts;
 use report::LINE_MOST;
 
@@ -25,12 +26,11 @@ const GROUPS: usize = 8;
 
 const BLOCKS: usize = 64;
 
-// How a trace ends: the file or a record of it is turned down with a number, or all cycles have run, so many with so
-// many findings.
-#[derive(Clone, Copy)]
-pub enum End {
-    Refused(u8),
-    Ran(u32, u32),
+// All cycles of a trace have run: so many, with so many findings.
+#[derive(Clone, Copy, Debug, PartialEq, Eq)]
+pub struct Ran {
+    pub cycles: u32,
+    pub findings: u32,
 }
 
 // Writes what a cycle prints. It is given no other text.
@@ -63,7 +63,7 @@ fn print_cycle(file: &[u8], blocks: &[u8], cycle: u32, k: u32, findings: &mut [u
 }
 
 // Prints the last line.
-fn print_last(file: &[u8], end: End, text: &mut [u8])
+fn print_last(file: &[u8], end: Result<Ran, Refusal>, text: &mut [u8])
     requires { (end ≡ end_of file.now) × (length text.old ≡ text_most) }
 {
     let size = lines::last_line(text, end);
@@ -75,38 +75,40 @@ fn print_last(file: &[u8], end: End, text: &mut [u8])
 fn run(
     file: &[u8],
     c: Counts,
-    groups: &[u8],
-    inputs: &[u8],
-    blocks: &[u8],
-    records: &[u8],
+    bodies: Bodies,
     order: &[u8],
     state: &mut [u8],
     findings: &mut [u8],
     text: &mut [u8],
-) -> End
-    requires started { Started file.now c groups.now inputs.now blocks.now records.now order.now
-        findings.old }
+) -> Result<Ran, Refusal>
+    requires started { Started file.now c bodies.groups.now bodies.inputs.now bodies.blocks.now bodies.trace.now
+        order.now findings.old }
     requires state_value { (state.old ≡ fresh_for (project_of file.now)) × (length text.old ≡ text_most) }
     ensures { result ≡ run_end file.now }
 {
+    let Bodies {
+        groups,
+        inputs,
+        blocks,
+        outputs: _,
+        trace: records,
+    } = bodies;
     let n = record_count(c.size, records);
     let mut total: u32 = 0;
-    let mut done = 0;
-    while done < n {
+    for done in 0..n {
         let rec = project::record_at(records, c.size, done);
         let errors = evaluator::unchecked::groups_in_error(c, blocks, state);
-        let answer = evaluator::unchecked::step(
+        let k = evaluator::unchecked::step(
             c, groups, inputs, blocks, order, &errors, rec, state, findings,
-        );
-        done += 1;
-        let k = match answer {
-            Answer::Findings(k) => k,
-            Answer::Refused(number) => return End::Refused(number),
-        };
+        )?;
         total += k;
-        print_cycle(file, blocks, done as u32, k, findings, text);
+        let cycle = (done + 1) as u32;
+        print_cycle(file, blocks, cycle, k, findings, text);
     }
-    End::Ran(done as u32, total)
+    Ok(Ran {
+        cycles: n as u32,
+        findings: total,
+    })
 }
 
 // How many cycle records of a size there are.
@@ -117,62 +119,41 @@ fn record_count(size: usize, records: &[u8]) -> usize
     records.len() / size
 }
 
-// The smaller of two numbers.
-fn least(a: usize, b: usize) -> usize
-    ensures upper_bound { result ≤ b }
-    ensures value { a ≤ b → result ≡ a }
-{
-    if a < b { a } else { b }
-}
-
-// The trace of a file, over buffers that have the sizes of an accepted one's, but for its last line.
+// The trace of a file, over its bodies and buffers that have the sizes of an accepted one's, but for its last line.
 fn trace_cycles(
     file: &[u8],
     c: Counts,
+    bodies: Bodies,
     state: &mut [u8],
     findings: &mut [u8],
     text: &mut [u8],
-) -> End
+) -> Result<Ran, Refusal>
+    requires handed { Handed file.now bodies.groups.now bodies.inputs.now bodies.blocks.now bodies.trace.now }
     requires offered { Offered file.now c state.old findings.old }
     requires text_len { length text.old ≡ text_most }
     ensures { result ≡ end_of file.now }
 {
-    let number = evaluator::fresh(file, state);
-    if number != 0 {
-        return End::Refused(number);
-    }
-    let starts = casefile::starts_of(file);
-    let groups = casefile::body(file, starts, casefile::BODY_G);
-    let inputs = casefile::body(file, starts, casefile::BODY_I);
-    let blocks = casefile::body(file, starts, casefile::BODY_B);
-    let records = casefile::body(file, starts, casefile::BODY_T);
-    let order = evaluator::unchecked::block_order(c, blocks);
-    run(
-        file, c, groups, inputs, blocks, records, &order, state, findings, text,
-    )
+    evaluator::fresh(file, state)?;
+    let order = evaluator::unchecked::block_order(c, bodies.blocks);
+    run(file, c, bodies, &order, state, findings, text)
 }
 
-// The trace of a file. (Its counts are taken as `casefile::counts_in` takes them: with one caller more that function is
-// no longer built into its callers, which costs a trace some instructions in a hundred.)
-pub fn trace(file: &[u8]) -> End
+// The trace of a file.
+pub fn trace(file: &[u8]) -> Result<Ran, Refusal>
     ensures { result ≡ end_of file.now }
 {
     let mut state = [0u8; GROUPS_AT + GROUPS + STATE_SIZE * BLOCKS];
     let mut findings = [0u8; FINDING_SIZE * BLOCKS];
     let mut text = [0u8; LINE_MOST * BLOCKS];
-    let starts = casefile::starts_of(file);
-    let c = project::counts_of(
-        casefile::body(file, starts, casefile::BODY_G),
-        casefile::body(file, starts, casefile::BODY_I),
-        casefile::body(file, starts, casefile::BODY_B),
-        casefile::body(file, starts, casefile::BODY_O),
-    );
-    let blocks = least(c.blocks, BLOCKS);
-    let size = GROUPS_AT + least(c.groups, GROUPS) + STATE_SIZE * blocks;
+    let bodies = Bodies::of(file);
+    let c = bodies.counts();
+    let blocks = c.blocks.min(BLOCKS);
+    let size = GROUPS_AT + c.groups.min(GROUPS) + STATE_SIZE * blocks;
     let room = FINDING_SIZE * blocks;
     let end = trace_cycles(
         file,
         c,
+        bodies,
         &mut state[..size],
         &mut findings[..room],
         &mut text,

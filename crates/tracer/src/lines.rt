@@ -6,21 +6,20 @@ ghost use Rattle.block.specs.Finding.{finding_in};
 ghost use Rattle.tracer.specs.Text.{shown_as, shown_type, line_of, lines_of, last_line};
 ghost use Rattle.tracer.specs.Asks.{text_most};
 
-use crate::End;
+use crate::Ran;
 use block::FINDING_SIZE;
+use evaluator::Refusal;
 use kind::Family;
 use numbers::NumType;
 use report::LINE_MOST;
 
 // The type of an input port as the line shows its word: numbers by their type, everything else unsigned.
-fn shown_as(family: Family, kind: u8, parameters: &[u8], port: u8) -> NumType
+fn shown_as(family: Option<Family>, kind: u8, parameters: &[u8], port: u8) -> NumType
     ensures { result ≡ shown_as family kind parameters.now port }
 {
     match family {
-        Family::Decouple => NumType::Uint32,
-        Family::Twohand => NumType::Uint32,
-        Family::Arithmetic => numbers::type_of(kind::type_in(kind, parameters, port)),
-        Family::Unknown => NumType::Uint32,
+        Some(Family::Arithmetic) => NumType::from(kind::type_in(kind, parameters, port)),
+        Some(Family::Decouple | Family::Twohand) | None => NumType::Uint32,
     }
 }
 
@@ -61,22 +60,20 @@ pub fn cycle_lines(out: &mut [u8], blocks: &[u8], cycle: u32, k: u32, findings: 
     ensures upper_bound { result ≤ text_most }
 {
     let mut at = 0;
-    let mut i: u32 = 0;
-    while i < k {
-        let f = wire::part(findings, FINDING_SIZE * (i as usize), FINDING_SIZE);
+    for i in 0..(k as usize) {
+        let f = wire::part(findings, FINDING_SIZE * i, FINDING_SIZE);
         let to = at + LINE_MOST;
         at += finding_line(&mut out[at..to], blocks, cycle, f);
-        i += 1;
     }
     at
 }
 
 // The last line.
-pub fn last_line(out: &mut [u8], end: End) -> usize
+pub fn last_line(out: &mut [u8], end: Result<Ran, Refusal>) -> usize
     ensures { Printed (last_line end) out.old out.new result }
 {
     match end {
-        End::Refused(number) => report::refused_line(out, number),
-        End::Ran(cycles, findings) => report::end_line(out, cycles, findings),
+        Ok(ran) => report::end_line(out, ran.cycles, ran.findings),
+        Err(refusal) => report::refused_line(out, refusal.number()),
     }
 }

@@ -1,8 +1,9 @@
 -- The earliest month with the largest difference: what a loop over the months keeps, that there is one wherever a month
 -- has a finding on both sides, and what the comparison says of the differences themselves. Assumes nothing.
-use Rattle.wire.proofs.Usual.{◌≡◌, refl, sym, ap, ◌∙◌, Bool, true, false, not, ◌&&◌, ◌||◌, true≢false, ℕ}
+use Rattle.wire.proofs.Usual.{◌≡◌, refl, sym, ap, ◌∙◌, subst, Bool, true, false, not, ◌&&◌, true≢false, List, ℕ}
 use Rattle.wire.proofs.Usual.{zero, suc}
 use Rattle.wire.proofs.Usual.{◌+◌, ◌-◌, ◌*◌, ◌<◌, ◌≤◌, dec_lt, arith, ltb, lt-ltb, ltb-true}
+use Rattle.std.proofs.Common.{Option, Some, None}
 use native.Mathlib.Nat.{mul-pos, not-le_of_lt, le_of_lt, le_refl, add-mul, mul_comm}
 use native.Mathlib.Numerals.{add-one}
 use borrow.Author.Count.{below_more}
@@ -11,8 +12,11 @@ use lib.Ieee.Positive.{through}
 use Rattle.wire.specs.Places.{first_bad, all}
 use Rattle.wire.proofs.Places.{hit, done, all_true, fails_all, both_left, both_right}
 use Rattle.year.specs.declared.bends.Sides.{Sides}
-use Rattle.year.specs.Bends.{both_sides, over, under, larger}
-use Rattle.year.specs.Asks.{better}
+use Rattle.year.specs.declared.Line.{Line}
+use Rattle.year.specs.Ledger.{month_count}
+use Rattle.year.specs.Bends.{both_sides, over, under, larger, sides_at, largest, bend_of}
+use Rattle.year.specs.Asks.{better, Counted, SmallBest}
+use Rattle.year.proofs.Sums.{sides_small}
 
 -- ---- fractions
 
@@ -49,126 +53,119 @@ module _ (v : ℕ → Sides) (n : ℕ) where
   abbrev pub best : ℕ → Bool
   best m = both_sides (v m) && all (λ k. not (both_sides (v k) && larger (v k) (v m))) n
 
-  pub record Top (has : Bool) (b : ℕ) (top : Sides) (m : ℕ) : Type 0 where
-    pub within : m ≤ n
-    pub none : has ≡ false → (k : ℕ) → k < m → both_sides (v k) ≡ false
-    pub below : has ≡ true → b < m
-    pub is : has ≡ true → top ≡ v b
-    pub good : has ≡ true → both_sides (v b) ≡ true
-    pub over : has ≡ true → (k : ℕ) → k < m → both_sides (v k) ≡ true → larger (v k) (v b) ≡ false
-    pub first : has ≡ true → (k : ℕ) → k < b → both_sides (v k) ≡ true → larger (v b) (v k) ≡ true
+  -- month b, whose sides are s, is the best of those below m
+  pub record Best (b : ℕ) (s : Sides) (m : ℕ) : Type 0 where
+    pub below : b < m
+    pub is : s ≡ v b
+    pub good : both_sides (v b) ≡ true
+    pub over : (k : ℕ) → k < m → both_sides (v k) ≡ true → larger (v k) (v b) ≡ false
+    pub first : (k : ℕ) → k < b → both_sides (v k) ≡ true → larger (v b) (v k) ≡ true
 
-  pub begin : (b : ℕ) (top : Sides) → Top false b top 0
-  begin b top = record {
-    within = omega arith;
-    none = λ _ k l. absurd (omega arith);
-    below = λ e. absurd (true≢false (sym e));
-    is = λ e. absurd (true≢false (sym e));
-    good = λ e. absurd (true≢false (sym e));
-    over = λ _ k l. absurd (omega arith);
-    first = λ e. absurd (true≢false (sym e));
-  }
+  -- none of the months below m has a finding on both sides
+  abbrev pub Dull : ℕ → Type 0
+  Dull m = (k : ℕ) → k < m → both_sides (v k) ≡ false
+
+  abbrev pub Top : Option (ℕ × Sides) → ℕ → Type 0
+  Top (Some t) m = Best t.0 t.1 m
+  Top None m = Dull m
+
+  pub begin : Dull 0
+  begin k l = absurd (omega arith)
 
   -- a month that is better
-  pub take : (has : Bool) (b : ℕ) (top : Sides) (m : ℕ) → Top has b top m → m < n →
-      better (v m) has top ≡ true → Top true m (v m) (m + 1)
-  take has b top m t l h = record {
-    within = omega arith;
-    none = λ e. absurd (true≢false e);
-    below = λ _. omega arith;
-    is = λ _. refl;
-    good = λ _. both_left (both_sides (v m)) _ h;
+  pub take : (o : Option (ℕ × Sides)) (m : ℕ) → Top o m → better (v m) o ≡ true → Best m (v m) (m + 1)
+  take o m t h = record {
+    below = omega arith;
+    is = refl;
+    good = good o h;
     over =
-        λ _. below_more (λ k. both_sides (v k) ≡ true → larger (v k) (v m) ≡ false) m
-        (λ k q u. larger_back (v m) (v k) (wins has refl k q u)) (λ u. larger_self (v m));
-    first = λ _ k q u. wins has refl k q u;
+        λ k l. below_more (λ k. both_sides (v k) ≡ true → larger (v k) (v m) ≡ false) m
+        (λ k q u. larger_back (v m) (v k) (wins o t h k q u)) (λ u. larger_self (v m)) k l;
+    first = wins o t h;
   }
     where
-      wins : (x : Bool) → has ≡ x → (k : ℕ) → k < m → both_sides (v k) ≡ true →
-          larger (v m) (v k) ≡ true
-      wins false e k q u = absurd (true≢false (sym u ∙ t.none e k q))
-      wins true e k q u =
-          let w : larger (v m) top ≡ true =
-          rw e at (both_right (both_sides (v m)) (not has || larger (v m) top) h) in
-          larger_over (v m) (v b) (v k) u (t.over e k q u) (rw (t.is e) at w)
+      good : (o : Option (ℕ × Sides)) → better (v m) o ≡ true → both_sides (v m) ≡ true
+      good (Some t) h = both_left (both_sides (v m)) _ h
+      good None h = h
+
+      wins : (o : Option (ℕ × Sides)) → Top o m → better (v m) o ≡ true →
+          (k : ℕ) → k < m → both_sides (v k) ≡ true → larger (v m) (v k) ≡ true
+      wins (Some (b, s)) t h k q u =
+          larger_over (v m) (v b) (v k) u (t.over k q u) (rw t.is at (both_right (both_sides (v m)) (larger (v m) s) h))
+      wins None t h k q u = absurd (true≢false (sym u ∙ t k q))
 
   -- one that is not
-  pub keep : (has : Bool) (b : ℕ) (top : Sides) (m : ℕ) → Top has b top m → m < n →
-      better (v m) has top ≡ false → Top has b top (m + 1)
-  keep has b top m t l h = record {
-    within = omega arith;
-    none = λ e. below_more (λ k. both_sides (v k) ≡ false) m (t.none e) (dull e (both_sides (v m)) refl);
-    below = λ e. omega (arith, t.below e);
+  pub keep : (o : Option (ℕ × Sides)) (m : ℕ) → Top o m → better (v m) o ≡ false → Top o (m + 1)
+  keep (Some (b, s)) m t h = record {
+    below = omega (arith, t.below);
     is = t.is;
     good = t.good;
     over =
-        λ e. below_more (λ k. both_sides (v k) ≡ true → larger (v k) (v b) ≡ false) m (t.over e)
-        (λ u. lost e u);
+        below_more (λ k. both_sides (v k) ≡ true → larger (v k) (v b) ≡ false) m t.over
+        (λ u. rw (u, t.is) at h);
     first = t.first;
   }
-    where
-      dull : has ≡ false → (y : Bool) → both_sides (v m) ≡ y → both_sides (v m) ≡ false
-      dull e true z = absurd (true≢false (rw (z, e) at h))
-      dull e false z = z
+  keep None m t h = below_more (λ k. both_sides (v k) ≡ false) m t h
 
-      lost : has ≡ true → both_sides (v m) ≡ true → larger (v m) (v b) ≡ false
-      lost e u = rw (u, e, t.is e) at h
+  pub some_below : (o : Option (ℕ × Sides)) (t : ℕ × Sides) (m : ℕ) → Top o m → o ≡ Some t → t.0 < m
+  some_below o t m h e = let best = subst (λ (x : Option (ℕ × Sides)). Top x m) e h in best.below
 
   -- all have been looked at
-  pub found : (has : Bool) (b : ℕ) (top : Sides) (m : ℕ) → Top has b top m → n ≤ m → has ≡ true →
-      b ≡ first_bad (λ k. not (best k)) n
-  found has b top m t l e =
+  pub found : (b : ℕ) (s : Sides) → Best b s n → b ≡ first_bad (λ k. not (best k)) n
+  found b s t =
       hit (record {
-        within = omega (arith, t.below e, t.within);
+        within = omega (arith, t.below);
         each = λ k q. earlier k q (both_sides (v k)) refl;
-      }) {x = not (best b)} refl (rw (t.good e, all_true _ n (λ k q. unbeaten k q (both_sides (v k)) refl)))
+      }) {x = not (best b)} refl (rw (t.good, all_true _ n (λ k q. unbeaten k q (both_sides (v k)) refl)))
     where
       unbeaten : (k : ℕ) → k < n → (y : Bool) → both_sides (v k) ≡ y →
           not (both_sides (v k) && larger (v k) (v b)) ≡ true
-      unbeaten k q true z = rw (z, t.over e k (omega arith) z)
+      unbeaten k q true z = rw (z, t.over k q z)
       unbeaten k q false z = rw z
 
       earlier : (k : ℕ) → k < b → (y : Bool) → both_sides (v k) ≡ y → not (best k) ≡ true
       earlier k q true z =
           rw (
             z,
-            fails_all (λ j. not (both_sides (v j) && larger (v j) (v k))) n b
-                (omega (arith, t.below e, t.within)) (rw (t.good e, t.first e k q z)),
+            fails_all (λ j. not (both_sides (v j) && larger (v j) (v k))) n b t.below
+                (rw (t.good, t.first k q z)),
           )
       earlier k q false z = rw z
 
-  pub nothing : (has : Bool) (b : ℕ) (top : Sides) (m : ℕ) → Top has b top m → n ≤ m → has ≡ false →
-      n ≡ first_bad (λ k. not (best k)) n
-  nothing has b top m t l e =
-      done (record { within = le_refl n; each = λ k q. rw (t.none e k (omega arith)) }) (le_refl n)
+  pub nothing : Dull n → n ≡ first_bad (λ k. not (best k)) n
+  nothing t = done (record { within = le_refl n; each = λ k q. rw (t k q) }) (le_refl n)
 
   -- ---- what the definition says, with no loop in it
 
   pub record Topped (m : ℕ) : Type 0 where
-    pub has : Bool
-    pub b : ℕ
-    pub top : Sides
-    pub is_top : Top has b top m
+    pub best : Option (ℕ × Sides)
+    pub is_top : Top best m
 
-  next : (m : ℕ) → m < n → (t : Topped m) (x : Bool) → better (v m) t.has t.top ≡ x → Topped (suc m)
-  next m l t true e = record {
-    has = true;
-    b = m;
-    top = v m;
-    is_top = rw add-one at (take t.has t.b t.top m t.is_top l e);
-  }
-  next m l t false e = record {
-    has = t.has;
-    b = t.b;
-    top = t.top;
-    is_top = rw add-one at (keep t.has t.b t.top m t.is_top l e);
-  }
+  next : (m : ℕ) (t : Topped m) (x : Bool) → better (v m) t.best ≡ x → Topped (suc m)
+  next m t true e = record { best = Some (m, v m); is_top = rw add-one at (take t.best m t.is_top e) }
+  next m t false e = record { best = t.best; is_top = rw add-one at (keep t.best m t.is_top e) }
 
-  pub tops : (m : ℕ) → m ≤ n → Topped m
-  tops zero l = record { has = false; b = 0; top = v 0; is_top = begin 0 (v 0) }
-  tops (suc m) l =
-      let t = tops m (omega arith) in
-      next m l t (better (v m) t.has t.top) refl
+  pub tops : (m : ℕ) → Topped m
+  tops zero = record { best = None; is_top = begin }
+  tops (suc m) = let t = tops m in next m t (better (v m) t.best) refl
+
+-- ---- the bend of a table
+
+abbrev pub told : Option (ℕ × Sides) → Option ℕ
+told (Some t) = Some (t.0 + 1)
+told None = None
+
+pub top_bend : (L : List Line) (o : Option (ℕ × Sides)) → Top (sides_at L) month_count o month_count →
+    bend_of L ≡ told o
+unfolding bend_of largest
+top_bend L (Some (b, s)) t = rw (← found (sides_at L) month_count b s t, lt-ltb _ _ t.below)
+top_bend L None t = rw (← nothing (sides_at L) month_count t)
+
+-- a best month has small numbers
+pub top_small : (L : List Line) → Counted L → (o : Option (ℕ × Sides)) (m : ℕ) → m ≤ month_count →
+    Top (sides_at L) month_count o m → SmallBest o
+top_small L h (Some (b, s)) m l t = rw t.is (sides_small L h b (omega (arith, l, t.below)))
+top_small L h None m l t = tt
 
 -- ---- the differences themselves
 

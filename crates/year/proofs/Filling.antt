@@ -1,11 +1,13 @@
--- The laws of `from`, and the invariant of a loop that fills an array from the front. Assumes nothing.
+-- The laws of `from`, and an array that `from_fn` fills. Assumes nothing.
 use Rattle.wire.proofs.Usual.{◌≡◌, refl, sym, ap, ap₂, ◌∙◌, List, ◌∷◌, ℕ, zero, suc, ◌+◌, ◌<◌, ◌≤◌}
 use Rattle.wire.proofs.Usual.{arith}
-use Rattle.wire.proofs.Usual.{zero-add, length, set}
-use native.Mathlib.Nat.{not-suc-le-zero, add-zero, add-suc, ne_of_lt}
-use lib.ListN.{get_or, length-set}
-use lib.Seq.{ext_get_or, get_or-set_same, get_or-set_other}
-use borrow.Author.Count.{below_more, below_none}
+use Rattle.wire.proofs.Usual.{zero-add, length, subst, dec_lt}
+use native.Mathlib.Nat.{not-suc-le-zero, add-zero, add-suc}
+use lib.ListN.{get_or}
+use lib.Seq.{ext_get_or}
+use denote.Param.Members.{Mut}
+use Rattle.std.specs.Fn.{Called}
+use Rattle.std.specs.Array.{IsFromFnResult, IsFromFnResultFrom}
 use Rattle.year.specs.Year.{from}
 
 module _ {A : Type 0} (d : A) where
@@ -33,26 +35,22 @@ from_same k zero f g h = refl
 from_same k (suc n) f g h =
     ap₂ ◌∷◌ (h k (omega arith)) (from_same (suc k) n f g (λ m l. h m (omega arith)))
 
--- the first k of n places hold f; d is what lies past the end
-pub record Filled {A : Type 0} (d : A) (f : ℕ → A) (n : ℕ) (xs : List A) (k : ℕ) : Type 0 where
-  pub within : k ≤ n
-  pub long : length xs ≡ n
-  pub each : (j : ℕ) → j < k → get_or xs j d ≡ f j
+-- what `from_fn` fills, where each call gives h of its place and changes nothing
+module _ {F A : Type 0} {g : Mut F (ℕ × Unit {0}) A} {f : F} (d : A) (h : ℕ → A)
+    (calls : (x : ℕ) (b : A) (q : F) → Called g f (x, tt) b q → (q ≡ f) × (b ≡ h x)) where
+  filled : (ys : List A) (i m : ℕ) (p : F) → p ≡ f → IsFromFnResultFrom g p ys i m →
+      (j : ℕ) → i ≤ j → j < i + m → get_or ys j d ≡ h j
+  filled ys i zero p e r j a l = absurd (omega arith)
+  filled ys i (suc m) p e r j a l = go (dec_lt i j) (filled ys (i + 1) m r.0 first.0 r.4 j)
+    where
+      first : (r.0 ≡ f) × (r.1 ≡ h i)
+      first = calls i r.1 r.0 (subst (λ (q : F). Called g q (i, tt) r.1 r.0) e r.3)
 
-module _ {A : Type 0} (d : A) (f : ℕ → A) (n : ℕ) where
-  pub fill_begin : (xs : List A) → length xs ≡ n → Filled d f n xs 0
-  fill_begin xs e = record { within = omega arith; long = e; each = below_none (λ (j : ℕ). get_or xs j d ≡ f j) }
+      go : Dec (i < j) → (i + 1 ≤ j → j < i + 1 + m → get_or ys j d ≡ h j) → get_or ys j d ≡ h j
+      go (yes q) later = later (omega arith) (omega arith)
+      go (no q) later =
+          let same : i ≡ j = omega (arith, q) in
+          subst (λ (k : ℕ). get_or ys k d ≡ h k) same (r.2.1 d ∙ first.1)
 
-  pub fill_more : (xs : List A) (k : ℕ) (v : A) → Filled d f n xs k → k < n → v ≡ f k →
-      Filled d f n (set xs k v) (k + 1)
-  fill_more xs k v h l e = record {
-    within = omega arith;
-    long = length-set xs k v ∙ h.long;
-    each =
-        below_more (λ (j : ℕ). get_or (set xs k v) j d ≡ f j) k
-        (λ j m. get_or-set_other xs k j v d (ne_of_lt m) ∙ h.each j m)
-        (get_or-set_same xs k v d (omega (arith, h.long)) ∙ e);
-  }
-
-  pub fill_done : (xs : List A) (k : ℕ) → Filled d f n xs k → n ≤ k → xs ≡ from 0 n f
-  fill_done xs k h l = is_from d xs n f h.long (λ i m. h.each i (omega arith))
+  pub from_fn_is : {ys : List A} {n : ℕ} → IsFromFnResult g f ys n → ys ≡ from 0 n h
+  from_fn_is {ys} {n} r = is_from d ys n h r.long (λ i l. filled ys 0 n f refl r.each i (omega arith) (omega arith))

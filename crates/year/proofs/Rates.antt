@@ -16,7 +16,7 @@ use lib.Ieee.Fits.{down_pos}
 use lib.Ieee.Order.{round_mono}
 use lib.Ieee.Positive.{first_pos}
 use lib.Ieee.Scale.{round_same}
-use Rattle.year.specs.declared.Share.TheVariants.{Rate}
+use Rattle.std.proofs.Common.{Some}
 use Rattle.year.specs.Months.{rate_of, bits_of}
 
 -- ---- the division is one rounding of the quotient
@@ -132,5 +132,5 @@ equal_self (fin false m e) h = rw (eq-eqb (m * up e * down e) (m * up e * down e
 
 -- what is rounded is a number, and so has bits of its own
 pub round_bits : (a b : ℕ) →
-    bits_of (Rate (round binary64 false a b)) ≡ to_bits binary64 (round binary64 false a b)
+    bits_of (Some (round binary64 false a b)) ≡ to_bits binary64 (round binary64 false a b)
 round_bits a b = rw (equal_self (round binary64 false a b) (round_real binary64 false a b))

@@ -1,12 +1,16 @@
 -- Sums over months, and what fits. Assumes nothing.
-use Rattle.wire.proofs.Usual.{◌≡◌, sym, ap, ◌∙◌, ℕ, zero, suc, ◌+◌, ◌-◌, ◌*◌, ◌<◌, ◌≤◌, dec_lt, arith, List}
+use Rattle.wire.proofs.Usual.{◌≡◌, refl, sym, ap, ap₂, ◌∙◌, ℕ, zero, suc, ◌+◌, ◌-◌, ◌*◌, ◌<◌, ◌≤◌, dec_lt, arith, List}
+use Rattle.wire.proofs.Usual.{length, length-drop, take, drop}
+use Rattle.std.proofs.Common.{sum_by}
+use Rattle.std.proofs.lemmas.List.{get_or-drop}
+use Rattle.std.proofs.lemmas.List.Sums.{sum_by_more}
 use native.Mathlib.Nat.{mul-le-mul, mul-suc}
 use native.Mathlib.Numerals.{add-one}
 use Rattle.year.specs.declared.Line.{Line}
 use Rattle.year.specs.declared.bends.Sides.{Sides}
 use Rattle.year.specs.Ledger.{month_count, month_most}
-use Rattle.year.specs.Bends.{sum_of, line_at, pool_of, sides_at, over, under}
-use Rattle.year.specs.Asks.{Counted, SmallPool, SmallSides}
+use Rattle.year.specs.Bends.{sum_of, no_line, line_at, pool_of, sides_at, over, under}
+use Rattle.year.specs.Asks.{Counted, pooled, SmallPool, SmallSides}
 
 -- one place more
 pub sum_more : (f : ℕ → ℕ) (k n : ℕ) → sum_of f k (n + 1) ≡ sum_of f k n + f (k + n)
@@ -56,32 +60,23 @@ some_sum f k (suc n) i a l = go (some_sum f k n i a) (dec_lt i (k + n))
     go r (yes q) = omega (arith, r q)
     go r (no q) = let same : i ≡ k + n = omega (arith, q) in rw same (omega arith)
 
--- a loop that adds month by month, from month k on: s is the sum of those before m
-pub record Added (f : ℕ → ℕ) (k m s : ℕ) : Type 0 where
-  pub from : k ≤ m
-  pub few : s ≤ 4294967296 * (m - k)
-  pub is : s ≡ sum_of f k (m - k)
+-- the pool of some months of a table is that of their lines
+module _ (L : List Line) (k : ℕ) where
+  sum_same : (f : Line → ℕ) (n : ℕ) → k + n ≤ length L →
+      sum_by f (take n (drop k L)) ≡ sum_of (λ m. f (line_at L m)) k n
+  unfolding sum_of
+  sum_same f zero l = refl
+  sum_same f (suc n) l =
+      ap (λ (m : ℕ). sum_by f (take m (drop k L))) (sym (add-one n))
+      ∙ sum_by_more f (drop k L) n no_line (simp length-drop (omega (arith, l)))
+      ∙ ap₂ ◌+◌ (sum_same f n (omega (arith, l))) (ap f (get_or-drop k L n no_line))
 
-pub add_begin : (f : ℕ → ℕ) (k : ℕ) → Added f k k 0
-unfolding sum_of
-add_begin f k = record {
-  from = omega arith;
-  few = omega arith;
-  is = let none : 0 ≡ k - k = omega arith in ap (sum_of f k) none;
-}
-
-pub add_more : (f : ℕ → ℕ) (k m s x : ℕ) → Added f k m s → x ≡ f m → x < 4294967296 →
-    Added f k (m + 1) (s + x)
-add_more f k m s x h e l =
-    let next : m + 1 - k ≡ m - k + 1 = omega (arith, h.from) in
-    let here : k + (m - k) ≡ m = omega (arith, h.from) in
-    record {
-      from = omega (arith, h.from);
-      few = omega (arith, h.few, h.from);
-      is =
-          (λ i. h.is i + (e ∙ ap f (sym here)) i) ∙ sym (sum_more f k (m - k))
-          ∙ ap (sum_of f k) (sym next);
-    }
+  pub pool_same : (n : ℕ) → k + n ≤ length L → pooled (take n (drop k L)) ≡ pool_of L k n
+  unfolding pool_of
+  pool_same n l = λ i. record {
+    findings = sum_same (λ m. m.findings) n l i;
+    dismissed = sum_same (λ m. m.dismissed) n l i;
+  }
 
 -- ---- pools of counted lines are small
 

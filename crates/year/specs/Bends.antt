@@ -1,12 +1,10 @@
 -- The bend of a table (02, W4). L is the table's twelve lines, m a month, counted from 0.
-use Rattle.std.specs.Prelude.{ℕ, zero, suc, ◌+◌, ◌-◌, ◌*◌, Bool, not, ◌&&◌, cond, List, ltb, get_or}
+use Rattle.std.specs.Prelude.{ℕ, zero, suc, ◌+◌, ◌-◌, ◌*◌, Bool, not, ◌&&◌, cond, List, ltb, get_or, Option, Some, None}
 use Rattle.std.specs.Float.{nan}
 use Rattle.wire.specs.Places.{first_bad, all}
 use Rattle.year.specs.declared.Line.{Line}
 use Rattle.year.specs.declared.bends.Pool.{Pool}
 use Rattle.year.specs.declared.bends.Sides.{Sides}
-use Rattle.year.specs.declared.Bend.{Bend}
-use Rattle.year.specs.declared.Bend.TheVariants.{After, Nothing}
 use Rattle.year.specs.Ledger.{month_count}
 
 -- ---- the two sides of a month
@@ -61,13 +59,13 @@ largest L m =
     && all (λ k. not (both_sides (sides_at L k) && larger (sides_at L k) (sides_at L m))) month_count
 
 -- 02, W4: the earliest wins a tie; none exactly when no such month exists
-abbrev pub bend_at : ℕ → Bend
-bend_at m = cond (ltb m month_count) (After (m + 1)) Nothing
+abbrev pub bend_at : ℕ → Option ℕ
+bend_at m = cond (ltb m month_count) (Some (m + 1)) None
 
-unfoldable pub bend_of : List Line → Bend
+unfoldable pub bend_of : List Line → Option ℕ
 bend_of L = bend_at (first_bad (λ m. not (largest L m)) month_count)
 
 -- 02, W4: the month of a bend as a number, 0 for none
-abbrev pub bend_number : Bend → ℕ
-bend_number (After m) = m
-bend_number Nothing = 0
+abbrev pub bend_number : Option ℕ → ℕ
+bend_number (Some m) = m
+bend_number None = 0

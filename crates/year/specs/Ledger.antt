@@ -1,10 +1,13 @@
 -- A ledger file, and when it is turned down (02, W4). F is the file's bytes, M a month's body, f a finding's bytes.
 -- Months are counted from 0 here; they are told from 1 on. Every definition is total: a byte past the end reads as 0.
-use Rattle.std.specs.Prelude.{ℕ, ◌*◌, ◌/◌, ◌%◌, Bool, ◌&&◌, List, [], ◌∷◌, eqb, leb, length, take, drop}
+use Rattle.std.specs.Prelude.{ℕ, ◌*◌, ◌/◌, ◌%◌, Bool, ◌&&◌, cond, List, [], ◌∷◌, eqb, leb, length, take, drop}
+use Rattle.std.specs.Prelude.{Result, Ok, Err}
 use Rattle.wire.specs.Words.{byte_at}
 use Rattle.wire.specs.Places.{all}
 use Rattle.wire.specs.Tables.{Row, row, first}
 use Rattle.contents.specs.Contents.{contents_size, contents_ok, body_of}
+use Rattle.year.specs.declared.rules.Refusal.{Refusal}
+use Rattle.year.specs.declared.rules.Refusal.TheVariants.{Size, Contents, Value, TooMany}
 use Rattle.year.specs.declared.rules.MonthRule.{MonthRule}
 use Rattle.year.specs.declared.rules.MonthRule.TheVariants.{Whole, Values, Few}
 
@@ -70,6 +73,31 @@ ledger_table F =
     ∷ row 23 (months_ok Values F)
     ∷ row 24 (months_ok Few F)
     ∷ []
+
+-- 02, W4: the number that stands for a refusal
+abbrev pub number_of : Refusal → ℕ
+number_of Size = 21
+number_of Contents = 22
+number_of Value = 23
+number_of TooMany = 24
+
+-- 02, W4: the number of an answer, 0 where it is no refusal
+abbrev pub answer_number : {A : Type 0} → Result A Refusal → ℕ
+answer_number (Ok x) = 0
+answer_number (Err e) = number_of e
+
+-- 02, W4: the same order, with what is wrong in place of its number (`verdict_number` of proofs/Taken)
+abbrev pub asked : Bool → Refusal → Result (Unit {0}) Refusal → Result (Unit {0}) Refusal
+asked kept e later = cond kept later (Err e)
+
+unfoldable pub verdict : List ℕ → Result (Unit {0}) Refusal
+verdict F =
+    asked (leb (contents_size month_count) (length F)) Size
+    (asked (contents_ok month_count F) Contents
+    (asked (months_ok Whole F) Contents
+    (asked (months_ok Values F) Value
+    (asked (months_ok Few F) TooMany
+    (Ok tt)))))
 
 -- 02, W4: the number with which a ledger is turned down, 0 where it is accepted
 unfoldable pub ledger_number : List ℕ → ℕ

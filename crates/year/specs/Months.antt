@@ -1,7 +1,7 @@
 -- A month's line: its findings, the dismissed ones and the rate (02, W4). M is a month's body, f a finding's bytes.
 -- Floats are `Float.Ieee`'s: `of_int binary64` is the 64-bit float nearest to a whole number, `div` the one nearest to
 -- the quotient.
-use Rattle.std.specs.Prelude.{ℕ, Bool, true, ◌&&◌, cond, List, eqb, pos, Float}
+use Rattle.std.specs.Prelude.{ℕ, Bool, true, ◌&&◌, cond, List, eqb, pos, Float, Option, Some, None}
 use Rattle.std.specs.Float.{binary64}
 use Rattle.std.specs.Float.Ieee.{div, of_int, of_bits, to_bits, eq}
 use Rattle.wire.specs.Words.{byte_at}
@@ -9,8 +9,6 @@ use Rattle.wire.specs.Packed.{hits}
 use Rattle.year.specs.declared.Closings.{Closings}
 use Rattle.year.specs.declared.Closings.TheVariants.{Every, Person}
 use Rattle.year.specs.declared.Line.{Line}
-use Rattle.year.specs.declared.Share.{Share}
-use Rattle.year.specs.declared.Share.TheVariants.{Rate, Nothing}
 use Rattle.year.specs.Ledger.{closed_at, verdict_at, finding_count, finding_at}
 
 -- ---- counts
@@ -51,10 +49,10 @@ unfoldable pub line_of : ℕ → ℕ → Line
 line_of n d = record { findings = n; dismissed = d; rate = cond (eqb n 0) nought (rate_of n d) }
 
 -- 02, W4: a month with no finding has no rate
-unfoldable pub share_of : Line → Share
-share_of l = cond (eqb l.findings 0) Nothing (Rate l.rate)
+unfoldable pub share_of : Line → Option Float
+share_of l = cond (eqb l.findings 0) None (Some l.rate)
 
 -- 02, W4: the rate's 64 bits. What is no number has no bits of its own, and is no rate of a line (proofs/Rates)
-abbrev pub bits_of : Share → ℕ
-bits_of (Rate x) = cond (eq x x) (to_bits binary64 x) 0
-bits_of Nothing = 0
+abbrev pub bits_of : Option Float → ℕ
+bits_of (Some x) = cond (eq x x) (to_bits binary64 x) 0
+bits_of None = 0

@@ -1,13 +1,13 @@
--- What is answered of a ledger: its number and its two tables (02, W4). F is the file's bytes.
-use Rattle.std.specs.Prelude.{ℕ, zero, suc, cond, List, [], ◌∷◌, eqb}
+-- What is answered of a ledger: its two tables, or why it is turned down (02, W4). F is the file's bytes.
+use Rattle.std.specs.Prelude.{ℕ, zero, suc, List, [], ◌∷◌, Result, Ok, Err}
 use Rattle.contents.specs.Contents.{body_of}
 use Rattle.year.specs.declared.Closings.{Closings}
 use Rattle.year.specs.declared.Closings.TheVariants.{Every, Person}
 use Rattle.year.specs.declared.Line.{Line}
-use Rattle.year.specs.declared.Bend.TheVariants.{Nothing}
 use Rattle.year.specs.declared.Table.{Table}
 use Rattle.year.specs.declared.Year.{Year}
-use Rattle.year.specs.Ledger.{month_count, ledger_number}
+use Rattle.year.specs.declared.rules.Refusal.{Refusal}
+use Rattle.year.specs.Ledger.{month_count, verdict}
 use Rattle.year.specs.Months.{found, dismissed, line_of}
 use Rattle.year.specs.Bends.{bend_of}
 
@@ -28,14 +28,14 @@ lines_of c F = from 0 month_count (month_line c F)
 unfoldable pub table_of : Closings → List ℕ → Table
 table_of c F = record { lines = lines_of c F; bend = bend_of (lines_of c F) }
 
--- 02, W4: a refusal gives no table: twelve lines without a finding, and no bend (DECISIONS 57)
-unfoldable pub no_table : Table
-no_table = record { lines = from 0 month_count (λ m. line_of 0 0); bend = Nothing }
+-- 02, W4: the whole table twice, of every finding and of those that a person closed; a refusal gives no table
+-- (DECISIONS 57)
+abbrev pub tables_of : List ℕ → Year
+tables_of F = record { every = table_of Every F; person = table_of Person F }
 
--- 02, W4: the whole table twice, of every finding and of those that a person closed
-unfoldable pub year_of : List ℕ → Year
-year_of F = record {
-  number = ledger_number F;
-  every = cond (eqb (ledger_number F) 0) (table_of Every F) no_table;
-  person = cond (eqb (ledger_number F) 0) (table_of Person F) no_table;
-}
+abbrev pub after : Result (Unit {0}) Refusal → Year → Result Year Refusal
+after (Ok _) y = Ok y
+after (Err e) y = Err e
+
+unfoldable pub year_of : List ℕ → Result Year Refusal
+year_of F = after (verdict F) (tables_of F)

@@ -1,121 +1,104 @@
 // The bend of a table (02, W4): the month, among those with a finding on both sides, where the dismissed share of all
 // later months less that of all up to and with it is largest, compared in whole numbers.
-ghost use Rattle.std.specs.Prelude.{◌≡◌, ◌+◌, ◌-◌, ◌≤◌, ◌<◌};
+ghost use Rattle.std.specs.Prelude.{◌≡◌, ◌≤◌, ◌<◌, length};
 ghost use Rattle.year.specs.Ledger.{month_count};
-ghost use Rattle.year.specs.Bends.{pool_of, sides_at, both_sides, over, under, larger, bend_of};
-ghost use Rattle.year.specs.Asks.{Counted, SmallSides, better};
+ghost use Rattle.year.specs.Bends.{sides_at, both_sides, over, under, larger, bend_of};
+ghost use Rattle.year.specs.Asks.{Counted, pooled, SmallSides, SmallBest, better};
 
-use crate::{Bend, Line, MONTHS};
+use crate::{Line, MONTHS};
 
 // The findings of some months, and the dismissed ones.
-#[derive(Clone, Copy)]
+#[derive(Clone, Copy, Debug, PartialEq, Eq)]
 pub struct Pool {
     pub findings: u64,
     pub dismissed: u64,
 }
 
 // All months up to and with one, and all later ones.
-#[derive(Clone, Copy)]
+#[derive(Clone, Copy, Debug, PartialEq, Eq)]
 pub struct Sides {
     pub upto: Pool,
     pub later: Pool,
 }
 
-fn wide(x: u32) -> u64
-    ensures { (result ≡ x) × (result < 4294967296) }
+// Some months, pooled.
+fn pool_of(months: &[Line]) -> Pool
+    requires { length months.now ≤ month_count }
+    ensures { result ≡ pooled months.now }
 {
-    x as u64
-}
-
-// The months from `start` up to but not with `end`, pooled.
-#[tactic(auto, unfolding(crate::specs::Bends::pool_of))]
-fn pool_of(lines: [Line; MONTHS], start: usize, end: usize) -> Pool
-    requires { start ≤ end × end ≤ month_count }
-    ensures { result ≡ pool_of lines start (end - start) }
-{
-    let mut findings = 0u64;
-    let mut dismissed = 0u64;
-    let mut m = start;
-    while m < end {
-        findings += wide(lines[m].findings);
-        dismissed += wide(lines[m].dismissed);
-        m += 1;
-    }
     Pool {
-        findings,
-        dismissed,
+        findings: months.iter().map(|l| u64::from(l.findings)).sum(),
+        dismissed: months.iter().map(|l| u64::from(l.dismissed)).sum(),
     }
 }
 
-#[tactic(auto, unfolding(crate::specs::Bends::sides_at))]
-fn sides_at(lines: [Line; MONTHS], m: usize) -> Sides
-    requires { m < month_count }
-    ensures { result ≡ sides_at lines m }
-{
-    let upto = pool_of(lines, 0, m + 1);
-    let later = pool_of(lines, m + 1, MONTHS);
-    Sides { upto, later }
+impl Sides {
+    // The two sides of month m.
+    fn at(lines: &[Line; MONTHS], m: usize) -> Sides
+        requires { m < month_count }
+        ensures { result ≡ sides_at lines.now m }
+    {
+        Sides {
+            upto: pool_of(&lines[..m + 1]),
+            later: pool_of(&lines[m + 1..]),
+        }
+    }
+
+    // Whether there is a finding on both sides.
+    fn both(self) -> bool
+        ensures { result ≡ both_sides self }
+    {
+        (0 < self.upto.findings) & (0 < self.later.findings)
+    }
+
+    // The later share and the undismissed share up to the month, added: the difference of the two shares, and one. A
+    // fraction, `over` by `under`.
+    fn over(self) -> u64
+        requires { SmallSides self }
+        ensures { result ≡ over self }
+    {
+        self.later.dismissed * self.upto.findings
+            + (self.upto.findings - self.upto.dismissed) * self.later.findings
+    }
+
+    fn under(self) -> u64
+        requires { SmallSides self }
+        ensures { result ≡ under self }
+    {
+        self.later.findings * self.upto.findings
+    }
+
+    // Whether the difference is larger than that of t.
+    fn is_larger(self, t: Sides) -> bool
+        requires { SmallSides self × SmallSides t }
+        ensures { result ≡ larger self t }
+    {
+        t.over() * self.under() < self.over() * t.under()
+    }
 }
 
-// Whether there is a finding on both sides.
-fn both_sides(s: Sides) -> bool
-    ensures { result ≡ both_sides s }
+// Whether the month of s is the bend of those looked at so far; `best` is the best of the others, where there is one.
+fn is_better(s: Sides, best: Option<(usize, Sides)>) -> bool
+    requires { SmallSides s × SmallBest best }
+    ensures { result ≡ better s best }
 {
-    (0 < s.upto.findings) & (0 < s.later.findings)
-}
-
-// The later share and the undismissed share up to the month, added: the difference of the two shares, and one. A
-// fraction, `over_of` by `under_of`.
-fn over_of(s: Sides) -> u64
-    requires { SmallSides s }
-    ensures { result ≡ over s }
-{
-    s.later.dismissed * s.upto.findings + (s.upto.findings - s.upto.dismissed) * s.later.findings
-}
-
-fn under_of(s: Sides) -> u64
-    requires { SmallSides s }
-    ensures { result ≡ under s }
-{
-    s.later.findings * s.upto.findings
-}
-
-// Whether the difference of s is larger than that of t.
-fn is_larger(s: Sides, t: Sides) -> bool
-    requires { SmallSides s × SmallSides t }
-    ensures { result ≡ larger s t }
-{
-    over_of(t) * under_of(s) < over_of(s) * under_of(t)
-}
-
-// Whether the month of s is the bend of those looked at so far; t is the best of the others, where there is one.
-fn is_better(s: Sides, has: bool, t: Sides) -> bool
-    requires { SmallSides s × SmallSides t }
-    ensures { result ≡ better s has t }
-{
-    both_sides(s) & (!has | is_larger(s, t))
+    match best {
+        Some((_, t)) => s.both() & s.is_larger(t),
+        None => s.both(),
+    }
 }
 
 // The bend.
-pub fn bend_of(lines: [Line; MONTHS]) -> Bend
-    requires { Counted lines }
-    ensures { result ≡ bend_of lines }
+pub fn bend_of(lines: &[Line; MONTHS]) -> Option<u8>
+    requires { Counted lines.now }
+    ensures { result ≡ bend_of lines.now }
 {
-    let mut has = false;
-    let mut best = 0;
-    let mut top = sides_at(lines, 0);
-    let mut m = 0;
-    while m < MONTHS {
-        let s = sides_at(lines, m);
-        if is_better(s, has, top) {
-            has = true;
-            best = m;
-            top = s;
+    let mut best = None;
+    for m in 0..MONTHS {
+        let s = Sides::at(lines, m);
+        if is_better(s, best) {
+            best = Some((m, s));
         }
-        m += 1;
     }
-    if has {
-        return Bend::After((best + 1) as u8);
-    }
-    Bend::Nothing
+    best.map(|(m, _)| (m + 1) as u8)
 }

@@ -6,95 +6,99 @@
 ghost use Rattle.std.specs.Prelude.{◌≡◌};
 ghost use Rattle.year.specs.Months.{share_of, bits_of};
 ghost use Rattle.year.specs.Bends.{bend_number};
-ghost use Rattle.year.specs.Year.{table_of, no_table, year_of};
+ghost use Rattle.year.specs.Ledger.{verdict};
+ghost use Rattle.year.specs.Year.{table_of, year_of};
 ghost use Rattle.year.specs.Asks.{Small};
 
 mod bends;
 mod months;
 mod rules;
 
-pub use rules::check;
+use rules::MonthRule;
+pub use rules::Refusal;
 
 pub const MONTHS: usize = 12;
 
 // Which closings a table is of: every one, or those by a person.
-#[derive(Clone, Copy)]
+#[derive(Clone, Copy, Debug, PartialEq, Eq)]
 pub enum Closings {
     Every,
     Person,
 }
 
 // A month's findings, the dismissed ones and the rate, 0 where it has none: `share_of` says whether it has one.
-#[derive(Clone, Copy)]
+// The field is no `Option`: that it is 0 there is `Lined.field` (demands, Ledgers), and the call for C hands it on.
+#[derive(Clone, Copy, Debug, PartialEq)]
 pub struct Line {
     pub findings: u32,
     pub dismissed: u32,
     pub rate: f64,
 }
 
-// A month's share: its rate, or nothing where it has no finding.
-#[derive(Clone, Copy)]
-pub enum Share {
-    Rate(f64),
-    Nothing,
-}
-
-// The month, from 1, where the dismissed share of all later months less that of all up to and with it is largest, or
-// nothing where no month has a finding on both sides.
-#[derive(Clone, Copy)]
-pub enum Bend {
-    After(u8),
-    Nothing,
-}
-
-#[derive(Clone, Copy)]
+// The lines of a table and its bend: the month, from 1, where the dismissed share of all later months less that of all
+// up to and with it is largest, or none where no month has a finding on both sides.
+#[derive(Clone, Copy, Debug, PartialEq)]
 pub struct Table {
     pub lines: [Line; MONTHS],
-    pub bend: Bend,
+    pub bend: Option<u8>,
 }
 
-// The number with which a ledger is turned down, or 0, and its two tables: with and without script closings.
-#[derive(Clone, Copy)]
+// The two tables of a ledger: with and without script closings.
+#[derive(Clone, Copy, Debug, PartialEq)]
 pub struct Year {
-    pub number: u8,
     pub every: Table,
     pub person: Table,
 }
 
-// The share of a line.
+// The share of a line: its rate, or none where it has no finding. `Option` is the enum of 01 for a month's share.
 #[tactic(auto, unfolding(crate::specs::Months::share_of))]
-pub fn share_of(l: Line) -> Share
+pub fn share_of(l: Line) -> Option<f64>
     ensures { result ≡ share_of l }
 {
     if l.findings == 0 {
-        return Share::Nothing;
+        return None;
     }
-    Share::Rate(l.rate)
+    Some(l.rate)
 }
 
 // The 64 bits of a share's rate; 0 for no rate, and for what is no number, which no line has.
-pub fn bits(s: Share) -> u64
-    ensures { result ≡ bits_of s }
+pub fn bits(share: Option<f64>) -> u64
+    ensures { result ≡ bits_of share }
 {
-    match s {
-        Share::Rate(x) => {
-            if x == x {
-                return f64::to_bits(x);
-            }
-            0
-        }
-        Share::Nothing => 0,
+    match share {
+        Some(x) if x == x => x.to_bits(),
+        _ => 0,
     }
 }
 
-// The month of a bend, 0 for none.
-pub fn bend_number(b: Bend) -> u8
-    ensures { result ≡ bend_number b }
+// The month of a bend, 0 for none, as C and the pipe are told it.
+pub fn bend_number(bend: Option<u8>) -> u8
+    ensures { result ≡ bend_number bend }
 {
-    match b {
-        Bend::After(m) => m,
-        Bend::Nothing => 0,
+    bend.unwrap_or(0)
+}
+
+// When a ledger is turned down, and why: 21 to 24 in this order.
+#[tactic(auto, unfolding(crate::specs::Ledger::verdict))]
+pub fn check(file: &[u8]) -> Result<(), Refusal>
+    ensures { result ≡ verdict file.now }
+{
+    if file.len() < rules::CONTENTS_SIZE {
+        return Err(Refusal::Size);
     }
+    if !contents::ok(file, rules::BODIES) {
+        return Err(Refusal::Contents);
+    }
+    if !rules::months_ok(file, MonthRule::Whole) {
+        return Err(Refusal::Contents);
+    }
+    if !rules::months_ok(file, MonthRule::Values) {
+        return Err(Refusal::Value);
+    }
+    if !rules::months_ok(file, MonthRule::Few) {
+        return Err(Refusal::TooMany);
+    }
+    Ok(())
 }
 
 // The table of an accepted ledger.
@@ -104,42 +108,18 @@ fn table_of(file: &[u8], c: Closings) -> Table
     ensures { result ≡ table_of c file.now }
 {
     let lines = months::lines_of(file, c);
-    let bend = bends::bend_of(lines);
+    let bend = bends::bend_of(&lines);
     Table { lines, bend }
 }
 
-// The table of one that was turned down.
-#[tactic(auto, unfolding(crate::specs::Year::no_table))]
-fn no_table() -> Table
-    ensures { result ≡ no_table }
-{
-    let none = months::line_of(0, 0);
-    let lines = [none; MONTHS];
-    Table {
-        lines,
-        bend: Bend::Nothing,
-    }
-}
-
 // The whole answer.
-#[tactic(auto, using(crate::proofs::Taken::taken_small), unfolding(crate::specs::Year::year_of))]
-pub fn year_of(file: &[u8]) -> Year
+#[tactic(auto, using(crate::proofs::Taken::accepted_small), unfolding(crate::specs::Year::year_of))]
+pub fn year_of(file: &[u8]) -> Result<Year, Refusal>
     ensures { result ≡ year_of file.now }
 {
-    let number = rules::check(file);
-    if number != 0 {
-        let none = no_table();
-        return Year {
-            number,
-            every: none,
-            person: none,
-        };
-    }
-    let every = table_of(file, Closings::Every);
-    let person = table_of(file, Closings::Person);
-    Year {
-        number,
-        every,
-        person,
-    }
+    check(file)?;
+    Ok(Year {
+        every: table_of(file, Closings::Every),
+        person: table_of(file, Closings::Person),
+    })
 }

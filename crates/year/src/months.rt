@@ -1,14 +1,15 @@
 // The lines of a table (02, W4): a month's findings, the dismissed ones and the rate.
-ghost use Rattle.std.specs.Prelude.{◌≡◌, ◌≤◌, ◌<◌, cond};
+ghost use Rattle.std.specs.Prelude.{◌≡◌, ◌≤◌, ◌<◌};
 ghost use Rattle.year.specs.Ledger.{finding_count, month_most, month_count};
 ghost use Rattle.year.specs.Months.{counts, is_dismissed, found, dismissed, rate_of, line_of};
 ghost use Rattle.year.specs.Year.{month_line, lines_of};
 ghost use Rattle.year.specs.Asks.{Small};
 
 use crate::{Closings, Line, MONTHS, rules};
+use std::array;
 
 // How many findings of a month there are in a table, and how many dismissed ones.
-#[derive(Clone, Copy)]
+#[derive(Clone, Copy, Debug, PartialEq, Eq)]
 struct Counts {
     findings: u32,
     dismissed: u32,
@@ -30,32 +31,22 @@ fn is_dismissed(f: &[u8]) -> bool
     wire::byte(f, rules::VERDICT_AT) == 1
 }
 
-// One more where it is so.
-fn one(so: bool) -> u32
-    ensures { (result ≡ cond so 1 0) × (result ≤ 1) }
-{
-    if so { 1 } else { 0 }
-}
-
 fn counts_of(month: &[u8], c: Closings) -> Counts
     requires { finding_count month.now ≤ month_most }
     ensures findings { result.findings ≡ found c month.now }
     ensures dismissed { result.dismissed ≡ dismissed c month.now }
 {
-    let n = rules::finding_count(month);
-    let mut findings = 0;
-    let mut dismissed = 0;
-    let mut k = 0;
-    while k < n {
-        let f = rules::finding_at(month, k);
-        let counted = is_counted(f, c);
-        findings += one(counted);
-        dismissed += one(counted & is_dismissed(f));
-        k += 1;
-    }
+    let findings = month
+        .chunks_exact(rules::FINDING_SIZE)
+        .filter(|f| is_counted(f, c))
+        .count();
+    let dismissed = month
+        .chunks_exact(rules::FINDING_SIZE)
+        .filter(|f| is_counted(f, c) & is_dismissed(f))
+        .count();
     Counts {
-        findings,
-        dismissed,
+        findings: findings as u32,
+        dismissed: dismissed as u32,
     }
 }
 
@@ -63,24 +54,22 @@ fn counts_of(month: &[u8], c: Closings) -> Counts
 fn rate_of(findings: u32, dismissed: u32) -> f64
     ensures { result ≡ rate_of findings dismissed }
 {
-    (dismissed as f64) / (findings as f64)
+    f64::from(dismissed) / f64::from(findings)
 }
 
 #[tactic(auto, unfolding(crate::specs::Months::line_of))]
 pub fn line_of(findings: u32, dismissed: u32) -> Line
     ensures { result ≡ line_of findings dismissed }
 {
-    if findings == 0 {
-        return Line {
-            findings,
-            dismissed,
-            rate: 0.0,
-        };
-    }
+    let rate = if findings == 0 {
+        0.0
+    } else {
+        rate_of(findings, dismissed)
+    };
     Line {
         findings,
         dismissed,
-        rate: rate_of(findings, dismissed),
+        rate,
     }
 }
 
@@ -99,12 +88,5 @@ pub fn lines_of(file: &[u8], c: Closings) -> [Line; MONTHS]
     requires { Small file.now }
     ensures { result ≡ lines_of c file.now }
 {
-    let none = line_of(0, 0);
-    let mut lines = [none; MONTHS];
-    let mut m = 0usize;
-    while m < MONTHS {
-        lines[m] = month_line(file, c, m);
-        m += 1;
-    }
-    lines
+    array::from_fn(|m| month_line(file, c, m))
 }

@@ -1,17 +1,16 @@
-// When a ledger is turned down (02, W4): 21 to 24 in this order.
+// The rules of a ledger (02, W4), and what stands for one that is not kept.
 ghost use Rattle.std.specs.Prelude.{◌≡◌, ◌<◌};
-ghost use Rattle.wire.specs.Places.{first_bad};
 ghost use Rattle.contents.specs.Contents.{body_of};
 ghost use Rattle.year.specs.Ledger.{month_count, finding_count, finding_at, values_ok, kept, kept_in, months_ok};
-ghost use Rattle.year.specs.Ledger.{ledger_number};
+ghost use Rattle.year.specs.Ledger.{number_of};
 
 // The months as entries of the contents table, and the table's size.
-const BODIES: u8 = 12;
+pub const BODIES: u8 = 12;
 
-const CONTENTS_SIZE: usize = 96;
+pub const CONTENTS_SIZE: usize = 96;
 
 // The size of a finding, and the places of its bytes.
-const FINDING_SIZE: usize = 6;
+pub const FINDING_SIZE: usize = 6;
 
 const BLOCK_AT: usize = 0;
 
@@ -24,8 +23,31 @@ pub const VERDICT_AT: usize = 5;
 // No month has more findings.
 const MONTH_MOST: usize = 4095;
 
+// Why a ledger is turned down.
+#[derive(Clone, Copy, Debug, PartialEq, Eq)]
+pub enum Refusal {
+    Size,
+    Contents,
+    Value,
+    TooMany,
+}
+
+impl Refusal {
+    // The number of 02 that stands for it.
+    pub fn number(self) -> u8
+        ensures { result ≡ number_of self }
+    {
+        match self {
+            Refusal::Size => 21,
+            Refusal::Contents => 22,
+            Refusal::Value => 23,
+            Refusal::TooMany => 24,
+        }
+    }
+}
+
 // What is asked of each month: whole findings, right values, not too many.
-#[derive(Clone, Copy)]
+#[derive(Clone, Copy, Debug, PartialEq, Eq)]
 pub enum MonthRule {
     Whole,
     Values,
@@ -50,14 +72,6 @@ pub fn finding_count(month: &[u8]) -> usize
     month.len() / FINDING_SIZE
 }
 
-#[tactic(auto, unfolding(crate::specs::Ledger::finding_count, crate::specs::Ledger::finding_at))]
-pub fn finding_at(month: &[u8], k: usize) -> &[u8]
-    requires { k < finding_count month.now }
-    ensures { result.now ≡ finding_at month.now k }
-{
-    wire::part(month, FINDING_SIZE * k, FINDING_SIZE)
-}
-
 // The values of a finding.
 #[tactic(auto, unfolding(crate::specs::Ledger::values_ok))]
 fn values_ok(f: &[u8]) -> bool
@@ -69,73 +83,27 @@ fn values_ok(f: &[u8]) -> bool
         & (wire::byte(f, VERDICT_AT) <= 1)
 }
 
-// The first finding of a month with a wrong value, or how many there are.
-fn first_wrong(month: &[u8]) -> usize
-    ensures { result ≡ first_bad (λ k. values_ok (finding_at month.now k))
-        (finding_count month.now) }
+// Whether each finding of a month has right values.
+fn values_right(month: &[u8]) -> bool
+    ensures { result ≡ kept MonthRule.Values month.now }
 {
-    let n = finding_count(month);
-    let mut k = 0;
-    while k < n {
-        if !values_ok(finding_at(month, k)) {
-            return k;
-        }
-        k += 1;
-    }
-    k
+    month.chunks_exact(FINDING_SIZE).all(values_ok)
 }
 
 // What is asked of a month.
-#[tactic(auto, unfolding(wire::specs::Places::all))]
 fn keeps(month: &[u8], a: MonthRule) -> bool
     ensures { result ≡ kept a month.now }
 {
     match a {
         MonthRule::Whole => month.len() % FINDING_SIZE == 0,
-        MonthRule::Values => first_wrong(month) == finding_count(month),
+        MonthRule::Values => values_right(month),
         MonthRule::Few => finding_count(month) <= MONTH_MOST,
     }
 }
 
-// The first month that does not keep it, or how many there are.
-fn first_broken(file: &[u8], a: MonthRule) -> u8
-    ensures { result ≡ first_bad (kept_in a file.now) month_count }
-{
-    let mut m = 0;
-    while m < BODIES {
-        if !keeps(body_of(file, m), a) {
-            return m;
-        }
-        m += 1;
-    }
-    m
-}
-
-#[tactic(auto, unfolding(crate::specs::Ledger::months_ok, wire::specs::Places::all))]
-fn months_ok(file: &[u8], a: MonthRule) -> bool
+// Whether each month keeps it.
+pub fn months_ok(file: &[u8], a: MonthRule) -> bool
     ensures { result ≡ months_ok a file.now }
 {
-    first_broken(file, a) == BODIES
-}
-
-// The number with which a ledger is turned down, 0 where it is accepted.
-pub fn check(file: &[u8]) -> u8
-    ensures { result ≡ ledger_number file.now }
-{
-    if file.len() < CONTENTS_SIZE {
-        return 21;
-    }
-    if !contents::ok(file, BODIES) {
-        return 22;
-    }
-    if !months_ok(file, MonthRule::Whole) {
-        return 22;
-    }
-    if !months_ok(file, MonthRule::Values) {
-        return 23;
-    }
-    if !months_ok(file, MonthRule::Few) {
-        return 24;
-    }
-    0
+    (0..BODIES).all(|m| keeps(body_of(file, m), a))
 }

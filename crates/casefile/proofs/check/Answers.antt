@@ -1,51 +1,41 @@
 -- The loop passes rules that hold, and stops at the first other.
-use Rattle.wire.proofs.Usual.{◌≡◌, sym, ap, ◌∙◌, Bool, List, ℕ, ◌<◌}
-use Rattle.wire.specs.Tables.{Row}
-use Rattle.wire.proofs.Places.{more, hit, done}
-use Rattle.wire.proofs.Tables.{kept_at}
-use Rattle.casefile.specs.declared.Verdict.TheVariants.{Refused}
-use Rattle.casefile.specs.declared.reader.Starts.{Starts}
-use Rattle.casefile.specs.declared.table.Rule.{Rule}
-use Rattle.casefile.specs.Bodies.{body_g, body_i, body_b, body_o, body_t, starts_of, stretch_of}
-use Rattle.casefile.specs.Refusal.{rule_count, rule_at, refusal_of, kept_by, file_table}
-use Rattle.casefile.proofs.Refusals.{table_at, reached, said_of, refused, accepted}
-use Rattle.casefile.proofs.Handed.{body_is}
+use Rattle.wire.proofs.Usual.{◌≡◌, sym, ◌∙◌, Bool, List, ℕ}
+use Rattle.wire.proofs.Places.{begin, more}
+use Rattle.casefile.specs.Bodies.{body_g, body_i, body_b, body_o, body_t, body_in}
+use Rattle.casefile.specs.Refusal.{rule_at, kept_by}
+use Rattle.casefile.proofs.Refusals.{holds_at, reached, said_of, refused, accepted}
 use Rattle.casefile.proofs.check.Goals as goal
 
--- the test of rule r at place k, of the stretches that the starts give, is that of the row at the place
-test : (F : List ℕ) {S : Starts} → S ≡ starts_of F → {G I B O T : List ℕ} → G ≡ stretch_of F S body_g →
-    I ≡ stretch_of F S body_i → B ≡ stretch_of F S body_b → O ≡ stretch_of F S body_o →
-    T ≡ stretch_of F S body_t → (k : ℕ) → k < rule_count → {r : Rule} → r ≡ rule_at k →
-    {x : Bool} → x ≡ kept_by F G I B O T r → x ≡ kept_at (file_table F) k
-test F s g n b o t k l rule kept =
-    kept
-    ∙ (λ j. kept_by F (body_is F s body_g g j) (body_is F s body_i n j) (body_is F s body_b b j)
-    (body_is F s body_o o j) (body_is F s body_t t j) (rule j))
-    ∙ sym (ap (λ (x : Row). x.kept) (table_at F k l))
+-- the test of the rule at place k, over the file's bodies
+test : (F : List ℕ) {G I B O T : List ℕ} → G ≡ body_in F body_g → I ≡ body_in F body_i → B ≡ body_in F body_b →
+    O ≡ body_in F body_o → T ≡ body_in F body_t → (k : ℕ) →
+    {x : Bool} → x ≡ kept_by F G I B O T (rule_at k) → x ≡ holds_at F k
+test F g n b o t k kept = kept ∙ (λ j. kept_by F (g j) (n j) (b j) (o j) (t j) (rule_at k))
+
+pub loop-r-init : goal.loop-r-init
+loop-r-init c = begin _ _
 
 -- what the rule counts on, said of the bodies
 pub keeps-requires : goal.keeps-requires
+unfolding rule_at
 keeps-requires c =
-    let F = c.args.file.now in
-    let s = c.starts_of-starts.ensures.are in
-    said_of (body_is F s body_g c.body-groups.ensures) (body_is F s body_i c.body-inputs.ensures)
-    (body_is F s body_b c.body-blocks.ensures) c.rule_at-r.ensures
-    (reached F c.loop-k.k c.loop-k-test.true c.loop-k.invariant)
+    let b = c.of-bodies.ensures in
+    said_of b.groups b.inputs b.blocks
+    (reached c.args.file.now c.loop-r.r-index c.loop-r-test.true c.loop-r.invariant)
 
 pub returns-then-not-keeps : goal.returns-then-not-keeps
+unfolding rule_at
 returns-then-not-keeps c =
-    let kept = test _ c.starts_of-starts.ensures.are c.body-groups.ensures c.body-inputs.ensures
-    c.body-blocks.ensures c.body-outputs.ensures c.body-records.ensures c.loop-k.k c.loop-k-test.true
-    c.rule_at-r.ensures c.keeps.ensures in
-    ap Refused (c.refusal_of.ensures ∙ ap refusal_of c.rule_at-r.ensures)
-    ∙ refused _ (hit c.loop-k.invariant kept c.if-not-keeps.true) c.loop-k-test.true
+    let b = c.of-bodies.ensures in
+    let kept = test _ b.groups b.inputs b.blocks b.outputs b.trace c.loop-r.r-index c.keeps.ensures in
+    refused _ c.loop-r-test.true c.loop-r.invariant (sym kept ∙ c.if-not-keeps.true)
 
-pub loop-k-preserved : goal.loop-k-preserved
-loop-k-preserved c =
-    let kept = test _ c.starts_of-starts.ensures.are c.body-groups.ensures c.body-inputs.ensures
-    c.body-blocks.ensures c.body-outputs.ensures c.body-records.ensures c.loop-k.k c.loop-k-test.true
-    c.rule_at-r.ensures c.keeps.ensures in
-    more c.loop-k.invariant c.loop-k-test.true kept c.if-not-keeps.false
+pub loop-r-preserved : goal.loop-r-preserved
+unfolding rule_at
+loop-r-preserved c =
+    let b = c.of-bodies.ensures in
+    let kept = test _ b.groups b.inputs b.blocks b.outputs b.trace c.loop-r.r-index c.keeps.ensures in
+    more c.loop-r.invariant c.loop-r-test.true kept c.if-not-keeps.false
 
 pub returns : goal.returns
-returns c = accepted _ (done c.loop-k.invariant c.loop-k-test.false) c.loop-k-test.false
+returns c = accepted _ c.loop-r.invariant c.loop-r-test.false

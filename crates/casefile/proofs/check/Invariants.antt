@@ -1,12 +1,8 @@
--- `casefile::check` meets its contract: the loop passes rules that hold, and stops at the first other.
-use Rattle.wire.proofs.Usual.{◌-◌}
+-- The loop passes rules that hold.
 use Rattle.wire.proofs.Places.{Passed}
-use Rattle.wire.proofs.Tables.{kept_at}
-use Rattle.casefile.specs.Refusal.{rule_count, file_table}
+use Rattle.casefile.specs.Refusal.{rule_count}
+use Rattle.casefile.proofs.Refusals.{holds_at}
 use Rattle.casefile.proofs.check.Given as goal
 
-abbrev pub invariant-loop-k : goal.invariant-loop-k
-invariant-loop-k l = Passed (kept_at (file_table l.file)) rule_count l.k
-
-abbrev pub decreases-loop-k : goal.decreases-loop-k
-decreases-loop-k l = rule_count - l.k
+abbrev pub invariant-loop-r : goal.invariant-loop-r
+invariant-loop-r l = Passed (holds_at l.file) rule_count l.r-index

@@ -7,10 +7,10 @@ use Rattle.hagglethwait.proofs.hagglethwait_cycle.Goals as goal
 
 pub overflow_cast-result : goal.overflow_cast-result
 overflow_cast-result c =
-    let e = sym c.in-Findings.is ∙ c.cycle-answer.ensures.answered in
+    let e = sym c.in-Ok.is ∙ c.cycle.ensures.answered in
     count_fits _ (omega (arith, few_found _ _ _ _ e))
 
-pub returns-in-Findings-clause-answered : goal.returns-in-Findings-clause-answered
-returns-in-Findings-clause-answered c =
-    let e = sym c.in-Findings.is ∙ c.cycle-answer.ensures.answered in
+pub returns-in-Ok-clause-answered : goal.returns-in-Ok-clause-answered
+returns-in-Ok-clause-answered c =
+    let e = sym c.in-Ok.is ∙ c.cycle.ensures.answered in
     count_is _ (omega (arith, few_found _ _ _ _ e)) ∙ ap answer_number e

@@ -1,16 +1,10 @@
--- The word, the two numbers and the line feed, each stored behind the one before.
-use Rattle.wire.proofs.Usual.{arith}
-use Rattle.report.specs.Lines.{end_word, end_line}
-use Rattle.report.proofs.Lines.{end_short}
-use Rattle.report.proofs.Puts.{put_text, ◌then◌, put_last, put_printed}
+-- The word, the two numbers and the line feed, each behind the one before.
+use Rattle.report.specs.Lines.{end_line}
+use Rattle.report.proofs.Making.{next, printed}
 use Rattle.report.proofs.end_line.Goals as goal
 
 pub returns : goal.returns
 unfolding end_line
 returns c =
-    put_printed
-    (end_short c.args.cycles c.args.findings (omega arith) (omega arith))
-    (put_text end_word c.put.ensures
-    then c.put_field-after_cycles.ensures.put
-    then c.put_field-after_findings.ensures.put
-    then put_last 10 c.put_byte.ensures)
+    let a = next _ c.begin-line.ensures.text c.number.ensures.text in
+    printed (next _ a c.number-2.ensures.text) c.print.ensures

@@ -1,22 +1,14 @@
--- The word, the four numbers, the two inputs and the line feed, each stored behind the one before.
-use Rattle.wire.proofs.Usual.{arith}
-use Rattle.report.specs.Lines.{finding_word, finding_line}
-use Rattle.report.proofs.Lines.{finding_short}
-use Rattle.report.proofs.Puts.{put_text, ◌then◌, put_last, put_printed}
+-- The word, the four numbers, the two inputs and the line feed, each behind the one before.
+use Rattle.report.specs.Lines.{finding_line}
+use Rattle.report.proofs.Making.{next, printed}
 use Rattle.report.proofs.finding_line.Goals as goal
 
 pub returns : goal.returns
 unfolding finding_line
 returns c =
-    let a = c.args in
-    put_printed
-    (finding_short a.cycle a.block a.text a.diagnosis a.ta a.x a.tb a.y
-    (omega arith) (omega arith) (omega arith) (omega arith) (omega arith) (omega arith))
-    (put_text finding_word c.put.ensures
-    then c.put_field-after_cycle.ensures.put
-    then c.put_field-after_block.ensures.put
-    then c.put_field-after_text.ensures.put
-    then c.put_field-after_diagnosis.ensures.put
-    then c.put_input-after_first.ensures.put
-    then c.put_input-after_second.ensures.put
-    then put_last 10 c.put_byte.ensures)
+    let a = next _ c.begin-line.ensures.text c.number.ensures.text in
+    let b = next _ a (rw c.from.ensures at c.number-2.ensures.text) in
+    let d = next _ b (rw c.from-2.ensures at c.number-3.ensures.text) in
+    let e = next _ d (rw c.from-3.ensures at c.number-4.ensures.text) in
+    let f = next _ e c.input.ensures.text in
+    printed (next _ f c.input-2.ensures.text) c.print.ensures

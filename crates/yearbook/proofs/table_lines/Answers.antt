@@ -1,19 +1,17 @@
 -- The title, the months and the bend stand one behind the other.
 use Rattle.wire.proofs.Usual.{◌+◌, ◌≤◌, length, arith}
-use Rattle.report.specs.Lines.{line_most}
-use Rattle.report.proofs.Puts.{◌then◌}
-use Rattle.report.proofs.Parts.{put_none, line_behind, part_long}
+use Rattle.report.proofs.Parts.{printed_put}
 use Rattle.yearbook.specs.Text.{table_text}
+use Rattle.yearbook.proofs.Behind.{behind, line_behind, put_long}
 use Rattle.yearbook.proofs.table_lines.Goals as goal
 
 pub returns-clause-put : goal.returns-clause-put
 unfolding table_text
 returns-clause-put c =
-    let m = c.month_lines-last in
-    let t = c.title_line in
-    let first = line_behind (put_none {out = c.args.out.now} {at = c.args.at})
-    (omega (arith, c.requires.0, c.requires.1)) t.ensures in
-    let long = part_long c.args.out.now t.new.out c.args.at line_most t.auto.out in
-    let room : m.result + line_most ≤ length m.new.out =
-    omega (arith, t.ensures.short, m.ensures.upper_bound, m.auto.out, long, c.requires.0, c.requires.1) in
-    line_behind (first then m.ensures.put) room c.bend_line.ensures
+    let t = c.title_line-end in
+    let m = c.month_lines-end in
+    let b = c.bend_line in
+    let few : t.result + m.result + b.result ≤ length c.args.out.now =
+    omega (arith, t.ensures.short, m.ensures.upper_bound, b.ensures.short, c.requires) in
+    let months = behind (printed_put t.ensures) (omega (arith, few, t.auto.out)) m.ensures.put in
+    line_behind months (omega (arith, few, put_long months)) b.ensures

@@ -12,10 +12,10 @@ pub returns-then-phase-eq-PHASE_RUN-clause-enters : goal.returns-then-phase-eq-P
 unfolding decouple_bytes decouple_step encode enters_from
 returns-then-phase-eq-PHASE_RUN-clause-enters c = search rules
 
-pub returns-clause-left : goal.returns-clause-left
+pub returns-else-phase-eq-PHASE_RUN-clause-left : goal.returns-else-phase-eq-PHASE_RUN-clause-left
 unfolding decouple_bytes decouple_step encode enters_from
-returns-clause-left c = search rules
+returns-else-phase-eq-PHASE_RUN-clause-left c = search rules
 
-pub returns-clause-enters : goal.returns-clause-enters
+pub returns-else-phase-eq-PHASE_RUN-clause-enters : goal.returns-else-phase-eq-PHASE_RUN-clause-enters
 unfolding decouple_bytes decouple_step encode enters_from
-returns-clause-enters c = search rules
+returns-else-phase-eq-PHASE_RUN-clause-enters c = search rules

@@ -21,22 +21,22 @@ transits P s ms x active code waited even a k w e t =
 pub returns-then-is_waiting-none_differs-clause-left :
     goal.returns-then-is_waiting-none_differs-clause-left
 returns-then-is_waiting-none_differs-clause-left c =
-    rw (transits c.args.p.now c.args.s.now c.args.ms c.args.x c.wide-active.result c.code_of-code.result
-    c.is_waiting.result c.none_differs.result (c.wide-active.ensures ∙ c.active_mask.ensures) c.code_of-code.ensures
+    rw (transits c.args.p.now c.args.s.now c.args.ms c.args.x c.from-active.result c.code_of-code.result
+    c.is_waiting.result c.none_differs.result (c.from-active.ensures ∙ c.active_mask.ensures) c.code_of-code.ensures
     c.is_waiting.ensures c.none_differs.ensures c.if-is_waiting-none_differs.true)
     (c.keep.ensures ∙ rw (
       c.plain.ensures,
       c.next_code.ensures,
       c.hands_of.ensures,
       c.code_of-code.ensures,
-      c.wide-active.ensures,
+      c.from-active.ensures,
       c.active_mask.ensures,
     ))
 
 pub returns-then-is_waiting-none_differs-clause-enters :
     goal.returns-then-is_waiting-none_differs-clause-enters
 returns-then-is_waiting-none_differs-clause-enters c =
-    rw (transits c.args.p.now c.args.s.now c.args.ms c.args.x c.wide-active.result c.code_of-code.result
-    c.is_waiting.result c.none_differs.result (c.wide-active.ensures ∙ c.active_mask.ensures) c.code_of-code.ensures
+    rw (transits c.args.p.now c.args.s.now c.args.ms c.args.x c.from-active.result c.code_of-code.result
+    c.is_waiting.result c.none_differs.result (c.from-active.ensures ∙ c.active_mask.ensures) c.code_of-code.ensures
     c.is_waiting.ensures c.none_differs.ensures c.if-is_waiting-none_differs.true)
     (sym (moves_on c.args.s.now (code_of c.args.s.now) (hands_of (active_mask c.args.p.now) c.args.x)))

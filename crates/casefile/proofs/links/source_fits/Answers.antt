@@ -4,14 +4,14 @@ use Rattle.wire.proofs.Usual.{arith}
 use Rattle.casefile.specs.Rules.{source_fits, source_typed, source_grouped}
 use Rattle.casefile.proofs.links.source_fits.Goals as goal
 
-pub returns-in-Nothing : goal.returns-in-Nothing
+pub returns-in-None : goal.returns-in-None
 unfolding source_fits source_typed source_grouped
-returns-in-Nothing c = grind (arith, common_steps)
+returns-in-None c = grind (arith, common_steps)
 
-pub returns-in-External : goal.returns-in-External
+pub returns-in-Some-External : goal.returns-in-Some-External
 unfolding source_fits source_typed source_grouped
-returns-in-External c = grind (arith, common_steps)
+returns-in-Some-External c = grind (arith, common_steps)
 
-pub returns-in-Output : goal.returns-in-Output
+pub returns-in-Some-Output : goal.returns-in-Some-Output
 unfolding source_fits source_typed source_grouped
-returns-in-Output c = grind (arith, common_steps)
+returns-in-Some-Output c = grind (arith, common_steps)

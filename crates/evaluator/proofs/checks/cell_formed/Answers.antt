@@ -4,5 +4,5 @@ use Rattle.evaluator.proofs.checks.cell_formed.Goals as goal
 
 pub returns : goal.returns
 returns c =
-    block_is c.args.blocks.now c.args.state.now c.args.h c.args.b _ _ _ _ _ c.part_at-r.ensures c.part-bytes.ensures
-    c.kind_of.ensures c.parameters_of.ensures c.well_formed-2.ensures
+    block_is c.args.layout.now.groups c.args.layout.now.blocks.now c.args.state.now c.args.b c.record-r.ensures
+    c.place.ensures c.part-bytes.ensures c.kind_of.ensures c.parameters_of.ensures c.well_formed-2.ensures

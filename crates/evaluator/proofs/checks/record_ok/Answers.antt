@@ -2,17 +2,20 @@
 use Rattle.std.proofs.Common.{rules}
 use Rattle.project.specs.Project.{record_size}
 use Rattle.evaluator.specs.Answer.{record_ok}
-use Rattle.wire.specs.Places.{all}
 use Rattle.evaluator.proofs.checks.record_ok.Goals as goal
 
-pub returns-then-rec-size : goal.returns-then-rec-size
-unfolding record_size record_ok all
-returns-then-rec-size c = search rules
+pub returns-then-rec-c : goal.returns-then-rec-c
+unfolding record_size record_ok
+returns-then-rec-c c = search rules
 
-pub first_bad_word-requires-clause-inputs_len : goal.first_bad_word-requires-clause-inputs_len
-unfolding record_size record_ok all
-first_bad_word-requires-clause-inputs_len c = search rules
+pub controls_ok-requires-clause-rec_len : goal.controls_ok-requires-clause-rec_len
+unfolding record_size
+controls_ok-requires-clause-rec_len c = search rules
+
+pub words_ok-requires-clause-inputs_len : goal.words_ok-requires-clause-inputs_len
+unfolding record_size
+words_ok-requires-clause-inputs_len c = search rules
 
 pub returns : goal.returns
-unfolding record_size record_ok all
+unfolding record_ok
 returns c = search rules

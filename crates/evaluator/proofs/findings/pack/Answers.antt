@@ -30,7 +30,7 @@ unfolding is_noted
 noted_same D D' b e = ap is_finding (note_same D D' b e)
 
 pub loop-b-init : goal.loop-b-init
-loop-b-init c = (omega arith, kept_start finding_size _ _ _)
+loop-b-init c = kept_start finding_size _ _ _
 
 pub loop-b-preserved : goal.loop-b-preserved
 unfolding row_of
@@ -40,23 +40,21 @@ loop-b-preserved c =
     let D = a.findings.now in
     let test = c.loop-b-test.true in
     let fits = room D a.n l.b c.requires.long test in
-    let still = kept_slot finding_size (is_noted D) (note_in D) D l.findings l.k l.b l.invariant.1 fits in
+    let still = kept_slot finding_size (is_noted D) (note_in D) D l.findings l.k l.b l.invariant fits in
     let hit = c.is_noted.ensures ∙ noted_same D l.findings l.b still in
-    let kept : List ℕ → ℕ → Type 0 = λ d k. Kept finding_size (is_noted D) (note_in D) D d k (l.b + 1) in (
-      omega arith,
-      elim c.if-is_noted.branch [
-        | then-is_noted w ↦
-            subst₂ kept
-            (sym (w.findings-is ∙ w.move_record.ensures ∙ ap (λ (v : List ℕ). sets
-            (sets l.findings (finding_size * l.b) (replicate finding_size 0)) (finding_size * l.k) v)
-            (note_same D l.findings l.b still)))
-            (sym w.k-is)
-            (kept_hit finding_size (is_noted D) (note_in D) D l.findings l.k l.b l.invariant.1
-            fits (sym hit ∙ w.if-is_noted.true) (note_long D a.n l.b c.requires.long test))
-        | else-is_noted w ↦
-            subst₂ kept (sym w.findings-is) (sym w.k-is)
-            (kept_miss finding_size (is_noted D) (note_in D) D l.findings l.k l.b
-            l.invariant.1 fits (sym hit ∙ w.if-is_noted.false) (c.requires.empty l.b test
-            (sym hit ∙ w.if-is_noted.false)))
-      ],
-    )
+    let kept : List ℕ → ℕ → Type 0 = λ d k. Kept finding_size (is_noted D) (note_in D) D d k (l.b + 1) in
+    elim c.if-is_noted.branch [
+      | then-is_noted w ↦
+          subst₂ kept
+          (sym (w.findings-is ∙ w.move_record.ensures ∙ ap (λ (v : List ℕ). sets
+          (sets l.findings (finding_size * l.b) (replicate finding_size 0)) (finding_size * l.k) v)
+          (note_same D l.findings l.b still)))
+          (sym w.k-is)
+          (kept_hit finding_size (is_noted D) (note_in D) D l.findings l.k l.b l.invariant
+          fits (sym hit ∙ w.if-is_noted.true) (note_long D a.n l.b c.requires.long test))
+      | else-is_noted w ↦
+          subst₂ kept (sym w.findings-is) (sym w.k-is)
+          (kept_miss finding_size (is_noted D) (note_in D) D l.findings l.k l.b
+          l.invariant fits (sym hit ∙ w.if-is_noted.false) (c.requires.empty l.b test
+          (sym hit ∙ w.if-is_noted.false)))
+    ]

@@ -1,10 +1,8 @@
--- `evaluator::ranks::ranks` meets its contract (`Ranking`).
-use Rattle.wire.proofs.Usual.{◌-◌}
+-- After b turns the first b blocks stand at their places in the order (`Ranking`).
+use Rattle.wire.proofs.Usual.{length}
+use Rattle.project.specs.Project.{block_count}
 use Rattle.evaluator.proofs.Ranking.{Ranking}
 use Rattle.evaluator.proofs.ranks.ranks.Given as goal
 
 abbrev pub invariant-loop-b : goal.invariant-loop-b
-invariant-loop-b l = Ranking l.blocks l.n l.at l.b
-
-abbrev pub decreases-loop-b : goal.decreases-loop-b
-decreases-loop-b l = l.n - l.b
+invariant-loop-b l = Ranking l.blocks (block_count l.blocks) l.at (length l.yielded)

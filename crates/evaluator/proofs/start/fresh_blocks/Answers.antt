@@ -12,13 +12,14 @@ long : (b : ℕ) → length (bytes b) ≡ state_size
 long b = fresh_long
 
 pub loop-b-init : goal.loop-b-init
-loop-b-init c = (omega arith, gathered_none state_size bytes _)
+loop-b-init c = (c.fresh-bytes.ensures, gathered_none state_size bytes _)
 
 pub loop-b-preserved : goal.loop-b-preserved
 loop-b-preserved c =
-    let b = c.loop-b.b in (
-      omega arith,
+    let b = c.loop-b.b in
+    let l = c.loop-b.invariant in (
+      l.0,
       c.put.ensures
-          ∙ (λ i. sets (c.loop-b.invariant.1 i) (state_size * b) (c.fresh-bytes.ensures i))
+          ∙ (λ i. sets (l.1 i) (state_size * b) (l.0 i))
           ∙ gathered_more state_size bytes c.args.cells.now b long (omega (arith, c.requires, c.loop-b-test.true)),
     )

@@ -1,6 +1,0 @@
--- `number_vectors::append` ends: the measure is what is left of the text.
-use Rattle.std.proofs.Common.{length, ◌-◌}
-use Rattle.number_vectors.proofs.append.Given as goal
-
-abbrev pub decreases-loop-i : goal.decreases-loop-i
-decreases-loop-i l = length l.text - l.i
