@@ -1,4 +1,3 @@
-pub mod Families
 pub mod Stretches
 pub mod Marking
 pub mod Numbers

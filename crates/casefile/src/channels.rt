@@ -16,6 +16,8 @@ const PORTS: usize = 8;
 const MARKS: usize = 512;
 
 // A mark is set for an output port, for what a link names, for a block's links, for all links, for O.
+// (Over places and not over `chunks_exact`: tried, and the loop's goals grew too large to be checked. A mark is a
+// number, as `channel_rule` of specs/ compares it.)
 fn mark(marks: &mut [u8; MARKS], block: u8, port: u8)
     ensures { Marked marks.old marks.new (passes (Some (Source.Output block port))) }
 {

@@ -1,6 +1,6 @@
 // The rules of the bodies' lengths, and of a record by itself or beside what it names (01, "Turned down", 3, 4, 5, 8
 // and 9).
-ghost use Rattle.std.specs.Prelude.{◌≡◌, ◌≤◌};
+ghost use Rattle.std.specs.Prelude.{◌≡◌, ◌≤◌, ◌<◌, ◌%◌, ◌/◌, ◌&&◌, eqb, leb, length};
 ghost use Rattle.wire.specs.Places.{all};
 ghost use Rattle.project.specs.Project.{group_count, input_count, block_count, output_count};
 ghost use Rattle.casefile.specs.Rules.{groups_size_ok, group_record_ok, inputs_size_ok, input_rule};
@@ -25,12 +25,20 @@ pub fn groups_ok(groups: &[u8]) -> bool
     ))
 }
 
+// Whole records of a size, and not more than so many.
+fn are_few(records: &[u8], size: usize, most: usize) -> bool
+    requires { 0 < size }
+    ensures { result ≡ (eqb (length records.now % size) 0 && leb (length records.now / size) most) }
+{
+    (records.len() % size == 0) & (records.len() / size <= most)
+}
+
 // 4: at most 128 whole records, and a record's fields.
 #[tactic(auto, unfolding(crate::specs::Rules::inputs_size_ok, project::specs::Project::input_count))]
 pub fn inputs_size_ok(inputs: &[u8]) -> bool
     ensures { result ≡ inputs_size_ok inputs.now }
 {
-    (inputs.len() % project::INPUT_SIZE == 0) & (inputs.len() / project::INPUT_SIZE <= 128)
+    are_few(inputs, project::INPUT_SIZE, 128)
 }
 
 #[tactic(auto, unfolding(crate::specs::Rules::input_rule))]
@@ -82,7 +90,7 @@ pub fn blocks_ok(groups: &[u8], blocks: &[u8]) -> bool
 pub fn outputs_size_ok(outputs: &[u8]) -> bool
     ensures { result ≡ outputs_size_ok outputs.now }
 {
-    (outputs.len() % project::OUTPUT_SIZE == 0) & (outputs.len() / project::OUTPUT_SIZE <= 64)
+    are_few(outputs, project::OUTPUT_SIZE, 64)
 }
 
 #[tactic(auto, unfolding(crate::specs::Rules::output_rule))]

@@ -15,7 +15,7 @@ use Rattle.project.specs.Project.{device, group_of, block_count, head_size}
 use Rattle.block.specs.State.{only_if, is_error}
 use Rattle.evaluator.specs.Groups.{control_byte, erred_in, has_error, pends, group_next, group_from, phase_of}
 use Rattle.evaluator.specs.State.{groups_at, state_head, group_byte, cell}
-use Rattle.evaluator.specs.Asks.{error_list, Decided, says_error, group_with}
+use Rattle.evaluator.specs.Asks.{error_list, says_error, group_with}
 
 -- ---- a list of n numbers
 
@@ -152,16 +152,6 @@ next_set a g f T v q e k j m = go (ℕ_discrete j g)
     go (no x) = get_or-set_other T (a + g) (a + j) v 0 (λ y. x (omega (arith, y))) ∙ k j (omega (arith, x))
 
 module _ (E G R S₀ : List ℕ) (h : ℕ) where
-  pub deciding_start : Deciding E G R S₀ h S₀ (replicate 8 0) 0
-  deciding_start = record {
-    within = omega arith;
-    long = refl;
-    done = λ j l. absurd (not-suc-le-zero l);
-    left = λ j l. refl;
-    wide = refl;
-    told = λ j l. absurd (not-suc-le-zero l);
-  }
-
   -- group g decides; its byte of the record is v, x its mark
   module _ (S H : List ℕ) (g : ℕ) (d : Deciding E G R S₀ h S H g) (l : g < h) (few : h ≤ 8)
       (room : state_head h ≤ length S₀) where
@@ -216,6 +206,3 @@ module _ (E G R S₀ : List ℕ) (h : ℕ) where
           ∙ sym (get_or-drop (state_head h) S₀ (j - h) 0)
           ∙ sym (get_or-append-add row (drop (state_head h) S₀) (j - h) 0)
           ∙ ap (λ (k : ℕ). get_or (row ++ drop (state_head h) S₀) k 0) (omega (arith, long, back))
-
-  pub deciding_phases : (S H : List ℕ) → Deciding E G R S₀ h S H h → Decided E G R S₀ h H
-  deciding_phases S H d = record { long = d.wide; each = d.told }

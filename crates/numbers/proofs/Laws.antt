@@ -1,18 +1,15 @@
 -- Sign and magnitude against ℤ: what the code computes on magnitudes is the library's sum, product, order and
 -- quotient, and the definitions of `specs/` at a sign and a magnitude. Every law is by cases on the signs. Assumes
 -- nothing.
-use mathlib.Core.Path.{◌≡◌, refl, sym, ap, ◌∙◌, subst⁻¹}
+use mathlib.Core.Path.{◌≡◌, refl, sym, ap, ◌∙◌}
 use mathlib.Core.Bool.{Bool, true, false, not, beq, cond}
 use mir.Val.{bool_byte as from_bool}
-use Prim.Native.Nat.{ℕ, zero, suc, ◌+◌, ◌-◌, ◌*◌, ◌/◌, ◌%◌, ◌^◌, ◌≤◌, ◌<◌, zero-le}
-use native.Mathlib.Nat.{mul-zero, zero-mul, add-zero, sub-zero, le_of_lt, lt_of_le_of_lt, mul-le-mul_left}
-use native.Mathlib.Nat.{mul-lt-mul_of_pos_right, zero-div, zero-mod, not-suc-le-zero}
-use lib.Pow.{pow_pos, pow-add}
+use Prim.Native.Nat.{ℕ, zero, suc, ◌+◌, ◌-◌, ◌*◌, ◌/◌, ◌%◌, ◌≤◌, ◌<◌, zero-le}
+use native.Mathlib.Nat.{zero-mul, add-zero, sub-zero, zero-div, zero-mod, not-suc-le-zero}
 use native.Mathlib.Omega.{arith}
 use borrow.Author.Tests.{lt-ltb, le-ltb, le-leb, lt-leb}
 use lib.Dec.{ltb, leb, leb-suc-suc, eqb-suc-zero, lit<, lit≤}
-use lib.IntN.{ℤ, pos, negsuc, neg_ℤ, nat_abs, sub_ℕ, ◌+ℤ◌, ◌*ℤ◌, +ℤ_comm, neg_ℤ-+ℤ, neg_ℤ-neg_ℤ}
-use lib.IntN.{zero-*ℤ}
+use lib.IntN.{ℤ, pos, negsuc, neg_ℤ, nat_abs, sub_ℕ, ◌+ℤ◌, ◌*ℤ◌, +ℤ_comm, neg_ℤ-+ℤ}
 use lib.Signed.{lt_z, le_z}
 use Rattle.numbers.specs.Types.{sgn, is_neg, signed, z_of, is_signed, under, over, value, word_of}
 use Rattle.numbers.specs.Results.{differ, settled, away, rounded_div, quotient}
@@ -65,36 +62,11 @@ neg_pos m n = +ℤ_comm (neg_ℤ (pos m)) (pos n) ∙ pos_neg n m
 pub neg_neg : (m n : ℕ) → neg_ℤ (pos m) +ℤ neg_ℤ (pos n) ≡ neg_ℤ (pos (m + n))
 neg_neg m n = sym (neg_ℤ-+ℤ (pos m) (pos n))
 
-pub sgn_not : (s : Bool) (m : ℕ) → sgn (not s) m ≡ neg_ℤ (sgn s m)
-sgn_not false m = refl
-sgn_not true m = sym (neg_ℤ-neg_ℤ (pos m))
-
 -- ---- products
 
 pub neg_mul : (m n : ℕ) → neg_ℤ (pos m) *ℤ pos n ≡ neg_ℤ (pos (m * n))
 neg_mul zero n = rw (zero-mul n)
 neg_mul (suc m) n = refl
-
-mul_neg : (m n : ℕ) → pos m *ℤ neg_ℤ (pos n) ≡ neg_ℤ (pos (m * n))
-mul_neg m zero = rw (mul-zero m)
-mul_neg m (suc n) = refl
-
-both_neg : (m n : ℕ) → neg_ℤ (pos m) *ℤ neg_ℤ (pos n) ≡ pos (m * n)
-both_neg zero n = rw (zero-mul n) (zero-*ℤ (neg_ℤ (pos n)))
-both_neg (suc m) zero = rw (mul-zero (suc m))
-both_neg (suc m) (suc n) = refl
-
-pub sgn_mul : (s t : Bool) (m n : ℕ) → sgn s m *ℤ sgn t n ≡ sgn (differ s t) (m * n)
-sgn_mul false false m n = refl
-sgn_mul false true m n = mul_neg m n
-sgn_mul true false m n = neg_mul m n
-sgn_mul true true m n = both_neg m n
-
--- the product of two numbers of k bits has at most k + k
-pub below : (k : ℕ) {a b : ℕ} → a < 2 ^ k → b < 2 ^ k → a * b < 2 ^ (k + k)
-below k {a} {b} ha hb =
-    subst⁻¹ (λ (n : ℕ). a * b < n) (pow-add 2 k k)
-    (lt_of_le_of_lt (mul-le-mul_left a (le_of_lt hb)) (mul-lt-mul_of_pos_right ha (pow_pos k)))
 
 -- ---- a word's value, as `load` finds it
 

@@ -7,12 +7,11 @@ use Rattle.wire.proofs.Usual.{append-nil, ℕ, zero, suc, ◌+◌, ◌-◌, ◌*
 use Rattle.wire.proofs.Usual.{length, length-append}
 use mathlib.Core.List.{append_assoc}
 use Prim.Native.Nat.{◌^◌}
-use native.Mathlib.Nat.{pow-succ', one-le-pow}
+use native.Mathlib.Nat.{pow-succ'}
 use borrow.Author.Tests.{le-ltb}
 use lib.IntN.{ℤ, pos, negsuc, nat_abs}
 use Rattle.numbers.specs.Types.{is_neg}
-use Rattle.report.specs.Decimal.{digit, digits_within, decimal, signed_decimal, read_on, value_of, Digits}
-use Rattle.report.specs.Decimal.{Numeral}
+use Rattle.report.specs.Decimal.{digit, digits_within, decimal, signed_decimal, read_on, value_of, Digits, Numeral}
 
 -- ---- one digit more
 
@@ -66,21 +65,6 @@ tenth n h = ap length (decimal_more n h) ∙ length-append (decimal (n / 10)) (d
 
 pub decimal_one : (n : ℕ) → n < 10 → length (decimal n) ≡ 1
 decimal_one n h = ap length (decimal_small n h)
-
--- a number from 10 ^ k on, below 10 ^ (k + 1)
-pub decimal_long : (k n : ℕ) → 10 ^ k ≤ n → n < 10 ^ suc k → length (decimal n) ≡ suc k
-decimal_long zero n p q = decimal_one n q
-decimal_long (suc k) n p q =
-    let low : 10 * 10 ^ k ≤ n = rw (pow-succ' 10 k) at p in
-    let high : n < 10 * 10 ^ suc k = rw (pow-succ' 10 (suc k)) at q in
-    let one : 1 ≤ 10 ^ k = one-le-pow k 10 (omega arith) in
-    tenth n (omega arith) ∙ ap suc (decimal_long k (n / 10) (omega arith) (omega arith))
-
-pub decimal_some : (n : ℕ) → 1 ≤ length (decimal n)
-decimal_some =
-    by_tenth (λ (n : ℕ). 1 ≤ length (decimal n))
-    (λ n h. omega (arith, decimal_one n h))
-    (λ n h e. omega (arith, tenth n h))
 
 -- a number below 10 ^ (k + 1) has at most k + 1 digits, so one of 32 bits at most 10
 most_at : (k n : ℕ) → Dec (n < 10) → n < 10 ^ suc k → length (decimal n) ≤ suc k

@@ -7,10 +7,15 @@ use Rattle.wire.proofs.Stores.{take-sets}
 use Rattle.numbers.specs.Types.{value}
 use Rattle.numbers.specs.declared.NumType.{NumType}
 use Rattle.numbers.proofs.Range.{value_small}
+use Rattle.report.specs.Decimal.{signed_decimal}
 use Rattle.report.specs.Lines.{finding_line, end_line, refused_line, Printed}
 use Rattle.report.specs.LedgerLines.{month_front, rate_line, no_rate_line, bend_line}
 use Rattle.report.proofs.Decimal.{decimal_ten, signed_eleven}
 use Rattle.report.proofs.Hexadecimal.{hex_length}
+
+-- the number of a stored word, signed by its type, has at most 11 characters
+pub word_eleven : (t : NumType) (w : ℕ) → w < 2 ^ 32 → length (signed_decimal (value t w)) ≤ 11
+word_eleven t w h = signed_eleven (value t w) (value_small t w h)
 
 pub finding_short : (cycle block text diagnosis : ℕ) (ta : NumType) (x : ℕ) (tb : NumType) (y : ℕ) →
     cycle < 2 ^ 32 → block < 2 ^ 32 → text < 2 ^ 32 → diagnosis < 2 ^ 32 → x < 2 ^ 32 → y < 2 ^ 32 →
@@ -24,8 +29,8 @@ finding_short cycle block text diagnosis ta x tb y c b t d p q =
       decimal_ten block b,
       decimal_ten text t,
       decimal_ten diagnosis d,
-      signed_eleven (value ta x) (value_small ta x p),
-      signed_eleven (value tb y) (value_small tb y q),
+      word_eleven ta x p,
+      word_eleven tb y q,
     ))
 
 pub end_short : (cycles findings : ℕ) → cycles < 2 ^ 32 → findings < 2 ^ 32 →
@@ -43,6 +48,9 @@ pub front_short : (month findings dismissed : ℕ) → month < 2 ^ 32 → findin
 unfolding month_front
 front_short month findings dismissed m f d =
     simp length-append (omega (arith, decimal_ten month m, decimal_ten findings f, decimal_ten dismissed d))
+
+-- how long the pieces of a line are
+pub ruleset lengths = (length-append, decimal_ten, word_eleven, front_short, hex_length)
 
 pub rate_short : (month findings dismissed bits : ℕ) → month < 2 ^ 32 → findings < 2 ^ 32 →
     dismissed < 2 ^ 32 → length (rate_line month findings dismissed bits) ≤ 96

@@ -1,7 +1,7 @@
 -- A line in the making: text behind what there is, and the library's digits as the definitions have them.
 -- Assumes nothing.
 use Rattle.wire.proofs.Usual.{◌≡◌, refl, sym, ap, ◌∙◌, List, [], ◌∷◌, ◌++◌, ℕ, zero, suc, ◌+◌, ◌-◌}
-use Rattle.wire.proofs.Usual.{subst, ◌*◌, ◌/◌, ◌%◌, ◌≤◌, ◌<◌}
+use Rattle.wire.proofs.Usual.{◌*◌, ◌/◌, ◌%◌, ◌≤◌, ◌<◌}
 use Rattle.wire.proofs.Usual.{arith, length, take, drop, length-append, length-take-le, sets, lt-ltb}
 use Prim.Native.Nat.{◌^◌}
 use native.Mathlib.Nat.{pow-succ', one-le-pow}
@@ -10,7 +10,6 @@ use lib.Seq.{sets-eq, take_at}
 use Rattle.io.specs.Digits.{last_digits, IsDigitCount, hex_digit_ascii}
 use Rattle.report.specs.Decimal.{decimal}
 use Rattle.report.specs.LedgerLines.{hexadecimal}
-use Rattle.report.specs.Lines.{line_feed, Printed}
 use Rattle.report.proofs.Decimal.{decimal_small, decimal_more, decimal_ten}
 use Rattle.report.proofs.Hexadecimal.{hex_more, hex_none}
 
@@ -68,8 +67,3 @@ next t e f = f ∙ ap (λ (x : List ℕ). x ++ t) e
 -- a character, and the text behind it
 pub next_of : {b d : List ℕ} (a : List ℕ) (x : ℕ) (t : List ℕ) → b ≡ a ++ (x ∷ []) → d ≡ b ++ t → d ≡ a ++ (x ∷ t)
 next_of a x t e f = next t e f ∙ append_assoc a (x ∷ []) t
-
--- the whole of it, with its line feed
-pub printed : {s t before after : List ℕ} {size : ℕ} → s ≡ t → Printed (s ++ line_feed) before after size →
-    Printed (t ++ line_feed) before after size
-printed {before = before} {after} {size} e p = subst (λ (x : List ℕ). Printed (x ++ line_feed) before after size) e p

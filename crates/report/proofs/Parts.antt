@@ -1,9 +1,9 @@
 -- Text that is stored in a part of a buffer. Assumes nothing.
-use Rattle.wire.proofs.Usual.{◌≡◌, refl, sym, ap, ◌∙◌, List, [], ◌++◌, ℕ, zero-add, ◌+◌, ◌-◌}
+use Rattle.wire.proofs.Usual.{◌≡◌, sym, ap, ◌∙◌, List, ◌++◌, ℕ, zero-add, ◌+◌, ◌-◌}
 use Rattle.wire.proofs.Usual.{◌≤◌, arith, length, take, drop, length-drop, length-take-le, sets}
 use borrow.Rule.Slice.PartMut.{put_mid, post_of, Post-is, same_len_mid}
 use mathlib.Core.List.{append_assoc}
-use native.Mathlib.Nat.{add-zero, add-sub_cancel_left}
+use native.Mathlib.Nat.{add-sub_cancel_left}
 use lib.ListN.{take-append-drop}
 use lib.Seq.{sets-eq, drop-drop, drop-append-le}
 use Rattle.report.specs.Lines.{line_most, Printed, Put}
@@ -47,10 +47,6 @@ part_stored X Y v at n l k e =
 pub part_long : (X Y : List ℕ) (at n : ℕ) → length Y ≡ length (take (at + n - at) (drop at X)) →
     length (put_mid at (at + n - at) X Y) ≡ length X
 part_long X Y at n e = same_len_mid at (at + n - at) X Y e
-
--- no text
-pub put_none : {out : List ℕ} {at : ℕ} → Put [] out at out at
-put_none {out} {at} = record { bytes = refl; place = sym (add-zero at) }
 
 -- a line at the front of a buffer
 pub printed_put : {line before after : List ℕ} {size : ℕ} → Printed line before after size →

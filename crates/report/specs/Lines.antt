@@ -2,12 +2,11 @@
 -- spaces, a line feed after every line, nothing else. Characters are in ASCII. A store of a run of bytes is the
 -- library's `sets` (`List.Edits`): what lies past the end is not written.
 -- Assumes nothing.
-use Rattle.std.specs.Prelude.{◌≡◌, ℕ, ◌+◌, ◌≤◌, List, [], ◌∷◌, ◌++◌, length, take}
+use Rattle.std.specs.Prelude.{◌≡◌, ℕ, ◌+◌, ◌≤◌, List, [], ◌∷◌, ◌++◌, length}
 use Rattle.std.proofs.lemmas.List.Edits.{sets}
 use Rattle.numbers.specs.Types.{value}
 use Rattle.numbers.specs.declared.NumType.{NumType}
 use Rattle.report.specs.Decimal.{decimal, signed_decimal}
-use Rattle.report.specs.declared.pieces.Line.{Line}
 
 -- 01, "The trace program": the first words of the lines
 
@@ -67,7 +66,3 @@ pub record Printed (line before after : List ℕ) (size : ℕ) : Type 0 where
 pub record Put (text before : List ℕ) (at : ℕ) (after : List ℕ) (next : ℕ) : Type 0 where
   pub bytes : after ≡ sets before at text
   pub place : next ≡ at + length text
-
--- general: the text of a line in the making
-abbrev pub so_far : Line → List ℕ
-so_far l = take l.used l.bytes

@@ -17,6 +17,7 @@ use pieces::Line;
 pub const LINE_MOST: usize = 96;
 
 // The line of a finding; x and y are the stored words of its inputs, ta and tb their types.
+#[tactic(auto, unfolding(crate::specs::Lines::finding_line), using(crate::proofs::Lines::lengths))]
 pub fn finding_line(
     out: &mut [u8],
     cycle: u32,
@@ -42,6 +43,7 @@ pub fn finding_line(
 }
 
 // The last line of a trace.
+#[tactic(auto, unfolding(crate::specs::Lines::end_line), using(crate::proofs::Lines::lengths))]
 pub fn end_line(out: &mut [u8], cycles: u32, findings: u32) -> usize
     ensures { Printed (end_line cycles findings) out.old out.new result }
 {
@@ -52,6 +54,7 @@ pub fn end_line(out: &mut [u8], cycles: u32, findings: u32) -> usize
 }
 
 // The line of a refusal: the last of a trace that was refused, and the only one of a ledger.
+#[tactic(auto, unfolding(crate::specs::Lines::refused_line), using(crate::proofs::Lines::lengths))]
 pub fn refused_line(out: &mut [u8], number: u8) -> usize
     ensures { Printed (refused_line number) out.old out.new result }
 {

@@ -1,12 +1,13 @@
 // A line in the making: text in fixed memory, which holds every line whole.
-ghost use Rattle.std.specs.Prelude.{◌≡◌, ◌+◌, ◌≤◌, ◌<◌, ◌++◌, length};
+ghost use Rattle.std.specs.Prelude.{◌≡◌, ℕ, ◌+◌, ◌≤◌, ◌<◌, List, ◌++◌, length, take};
 ghost use Rattle.numbers.specs.Types.{value};
 ghost use Rattle.report.specs.Decimal.{decimal, signed_decimal};
 ghost use Rattle.report.specs.LedgerLines.{hexadecimal};
-ghost use Rattle.report.specs.Lines.{field, line_feed, so_far, Printed};
+ghost use Rattle.report.specs.Lines.{field, line_feed, Printed};
 
 use crate::LINE_MOST;
 use numbers::NumType;
+use std::marker::Model;
 
 // The first `used` bytes are the line's so far.
 #[derive(Drop)]
@@ -15,12 +16,20 @@ pub struct Line {
     used: usize,
 }
 
+// Clauses see the text so far.
+impl Model for Line {
+    ghost Value = { List ℕ };
+
+    ghost view = { λ l. take l.used l.bytes };
+
+    ghost invariant = { λ l. l.used ≤ 96 };
+}
+
 impl Line {
     // A line that begins with a word.
     pub fn begin(word: &[u8]) -> Line
         requires { length word.now ≤ 96 }
-        ensures text { so_far result ≡ word.now }
-        ensures size { result.used ≡ length word.now }
+        ensures { result ≡ word.now }
     {
         let mut line = Line {
             bytes: [0; LINE_MOST],
@@ -32,9 +41,8 @@ impl Line {
 
     // Text behind what there is.
     pub fn add(&mut self, text: &[u8])
-        requires { self.old.used + length text.now ≤ 96 }
-        ensures text { so_far self.new ≡ so_far self.old ++ text.now }
-        ensures size { self.new.used ≡ self.old.used + length text.now }
+        requires { length self.old + length text.now ≤ 96 }
+        ensures { self.new ≡ self.old ++ text.now }
     {
         wire::put(&mut self.bytes, self.used, text);
         self.used += text.len();
@@ -42,9 +50,8 @@ impl Line {
 
     // A number in decimal.
     fn decimal(&mut self, n: u32)
-        requires { self.old.used + 10 ≤ 96 }
-        ensures text { so_far self.new ≡ so_far self.old ++ decimal n }
-        ensures size { self.new.used ≤ self.old.used + 10 }
+        requires { length self.old + 10 ≤ 96 }
+        ensures { self.new ≡ self.old ++ decimal n }
     {
         let mut digits = [0; 20];
         let size = io::decimal(u64::from(n), &mut digits);
@@ -53,9 +60,8 @@ impl Line {
 
     // A space and a number.
     pub fn number(&mut self, n: u32)
-        requires { self.old.used + 11 ≤ 96 }
-        ensures text { so_far self.new ≡ so_far self.old ++ field (decimal n) }
-        ensures size { self.new.used ≤ self.old.used + 11 }
+        requires { length self.old + 11 ≤ 96 }
+        ensures { self.new ≡ self.old ++ field (decimal n) }
     {
         self.add(b" ");
         self.decimal(n);
@@ -63,9 +69,8 @@ impl Line {
 
     // A space and the number of a stored word, signed by its type.
     pub fn input(&mut self, t: NumType, w: u32)
-        requires { self.old.used + 12 ≤ 96 }
-        ensures text { so_far self.new ≡ so_far self.old ++ field (signed_decimal (value t w)) }
-        ensures size { self.new.used ≤ self.old.used + 12 }
+        requires { length self.old + 12 ≤ 96 }
+        ensures { self.new ≡ self.old ++ field (signed_decimal (value t w)) }
     {
         let v = t.load(w);
         self.add(b" ");
@@ -77,9 +82,8 @@ impl Line {
 
     // A space and all 16 hexadecimal digits of a number.
     pub fn bits(&mut self, n: u64)
-        requires { self.old.used + 17 ≤ 96 }
-        ensures text { so_far self.new ≡ so_far self.old ++ field (hexadecimal 16 n) }
-        ensures size { self.new.used ≤ self.old.used + 17 }
+        requires { length self.old + 17 ≤ 96 }
+        ensures { self.new ≡ self.old ++ field (hexadecimal 16 n) }
     {
         let mut digits = [0; 16];
         let count = io::hex(n, 16, &mut digits);
@@ -89,8 +93,8 @@ impl Line {
 
     // The line and its line feed, at the front of a buffer. Answers how long it is.
     pub fn print(mut self, out: &mut [u8]) -> usize
-        requires { self.used < 96 }
-        ensures { Printed (so_far self ++ line_feed) out.old out.new result }
+        requires { length self < 96 }
+        ensures { Printed (self ++ line_feed) out.old out.new result }
     {
         self.add(b"\n");
         wire::put(out, 0, &self.bytes[..self.used]);

@@ -1,17 +1,15 @@
 -- Records packed in place: those of the places that are hit move to the front of a buffer whose other records are
 -- zeros; how many places are hit; and what their entries are. Assumes nothing.
-use Rattle.wire.proofs.Usual.{◌≡◌, refl, sym, ap, ap₂, ◌∙◌, Bool, true, false, cond, not, ◌&&◌, List}
-use Rattle.wire.proofs.Usual.{[]}
+use Rattle.wire.proofs.Usual.{◌≡◌, refl, sym, ap, ap₂, ◌∙◌, Bool, true, false, cond, not, ◌&&◌, List, []}
 use Rattle.wire.proofs.Usual.{◌++◌, append-nil, ℕ_discrete}
-use Rattle.wire.proofs.Usual.{ℕ, zero, suc, ◌+◌, ◌-◌, ◌*◌, ◌<◌, ◌≤◌, zero-add, arith, length, take, drop}
+use Rattle.wire.proofs.Usual.{ℕ, zero, suc, ◌+◌, ◌-◌, ◌*◌, ◌<◌, ◌≤◌, arith, length, take, drop}
 use Rattle.wire.proofs.Usual.{replicate, length-append, length-replicate, length-drop, sets}
 use mathlib.Core.List.{append_assoc}
-use native.Mathlib.Nat.{suc-sub-suc, zero-sub, sub-zero, add-zero, mul-zero, mul-suc, mul-le-mul_left}
-use native.Mathlib.Nat.{not-suc-le-zero}
+use native.Mathlib.Nat.{suc-sub-suc, zero-sub, sub-zero, add-zero, mul-zero, mul-suc, mul-le-mul_left, not-suc-le-zero}
 use native.Mathlib.Numerals.{add-one}
 use borrow.Author.Tests.{not-false}
 use lib.ListN.{replicate-append-replicate, take-append-drop}
-use lib.Seq.{sets-eq, take_at, drop_at, drop-append-add, drop-append-le, drop-drop, drop-length, take_all}
+use lib.Seq.{sets-eq, take_at, drop_at, drop-append-add, drop-append-le, drop-drop, take_all}
 use Rattle.wire.specs.Packed.{entries, hits, packed}
 use Rattle.wire.proofs.Records.{apart}
 use Rattle.wire.proofs.Stores.{part_front}
@@ -34,12 +32,6 @@ pub record Kept (w : ℕ) (hit : ℕ → Bool) (f : ℕ → List ℕ) (s buffer 
   pub count : k ≡ hits b hit
   pub size : length (entries b hit f) ≡ w * k
   pub list : buffer ≡ packed (w * b) b hit f ++ drop (w * b) s
-
--- a run of stores over a whole buffer
-pub sets_whole : (v l : List ℕ) → length v ≡ length l → sets l 0 v ≡ v
-sets_whole v l e =
-    sets-eq v l 0 (omega arith) ∙ ap (λ (t : List ℕ). v ++ t)
-    (ap (λ (k : ℕ). drop k l) (zero-add (length v) ∙ e) ∙ drop-length l) ∙ append-nil v
 
 module _ (w : ℕ) (hit : ℕ → Bool) (f : ℕ → List ℕ) where
   entries_hit : (b : ℕ) → hit b ≡ true → entries (b + 1) hit f ≡ entries b hit f ++ f b
@@ -92,11 +84,6 @@ module _ (w : ℕ) (hit : ℕ → Bool) (f : ℕ → List ℕ) where
     packed_long =
         length-append (entries b hit f) (zeros k b)
         ∙ omega (arith, h.size, length-replicate {A = ℕ} (w * b - w * k) 0, mul-le-mul_left w h.few)
-
-    pub kept_long : w * b ≤ length s → length buffer ≡ length s
-    kept_long room =
-        ap length (front s buffer k b h) ∙ length-append (entries b hit f ++ zeros k b) (drop (w * b) s)
-        ∙ omega (arith, packed_long, length-drop (w * b) s)
 
   module _ (s buffer : List ℕ) (k b : ℕ) (h : Kept w hit f s buffer k b) (room : w * (b + 1) ≤ length s) where
     long_packed : length (entries b hit f ++ zeros k b) ≡ w * b
@@ -190,14 +177,6 @@ module _ (w : ℕ) (hit : ℕ → Bool) (f : ℕ → List ℕ) where
 
         count_left : w * (b + 1) - w * k - length (f b) ≡ w * (b + 1) - length (entries b hit f ++ f b)
         count_left = omega (arith, h.size, length-append (entries b hit f) (f b))
-
-  -- all are packed
-  pub kept_end : (s buffer : List ℕ) (k n : ℕ) → length s ≡ w * n → Kept w hit f s buffer k n →
-      buffer ≡ packed (w * n) n hit f
-  kept_end s buffer k n e h =
-      h.list ∙ ap (λ (t : List ℕ). packed (w * n) n hit f ++ t)
-      (ap (λ (j : ℕ). drop j s) (sym e) ∙ drop-length s)
-      ∙ append-nil (packed (w * n) n hit f)
 
 -- what is packed depends on the places that are hit alone
 entries_same : (n : ℕ) (hit hit' : ℕ → Bool) (f f' : ℕ → List ℕ) →

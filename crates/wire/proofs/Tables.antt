@@ -1,14 +1,12 @@
--- The laws of tables of refusals: `first` tells whether every row is kept and which is the first that is not, a search
--- over the places finds it, and of two tables after each other the first decides where it is not kept. None names a
--- place or a number of a table. Assumes nothing.
+-- The laws of tables of refusals: `first` tells whether every row is kept and which is the first that is not, and of
+-- two tables after each other the first decides where it is not kept. None names a place or a number of a table.
+-- Assumes nothing.
 use Rattle.wire.proofs.Usual.{◌≡◌, refl, sym, ap, ◌∙◌, subst, Bool, true, false, cond, ◌&&◌, true≢false}
-use Rattle.wire.proofs.Usual.{◌≢◌, List, [], ◌∷◌, ◌++◌, ℕ, zero, suc, ◌<◌, ◌≤◌, dec_lt, arith, ltb-true}
-use Rattle.wire.proofs.Usual.{ltb, length}
+use Rattle.wire.proofs.Usual.{◌≢◌, List, [], ◌∷◌, ◌++◌, ℕ, zero, suc, ◌<◌, dec_lt, arith, ltb-true, ltb}
 use mathlib.Core.Logic.{◌↔◌, ◌⊎◌, inl, inr}
 use native.Mathlib.Nat.{not-suc-le-zero, le_of_suc-le-suc}
-use Rattle.wire.specs.Places.{first_bad}
 use Rattle.wire.specs.Tables.{Row, first, row_at, FirstIn, AllKept}
-use Rattle.wire.proofs.Places.{found, both_left, both_right}
+use Rattle.wire.proofs.Places.{both_left, both_right}
 
 -- no row has the number 0
 unfoldable pub numbered : List Row → Bool
@@ -111,29 +109,6 @@ module _ (rs : List Row) (s : numbered rs ≡ true) where
       go : first rs ≡ n → Holding rs (first rs) ⊎ FirstIn rs (first rs) → FirstIn rs n
       go e (inl h) = absurd (p (sym e ∙ h.none))
       go e (inr f) = subst (FirstIn rs) e f
-
--- ---- a search over the places finds the row
-
-past_kept : (rs : List Row) (k : ℕ) → length rs ≤ k → kept_at rs k ≡ true
-past_kept [] k l = refl
-past_kept (r ∷ rs) zero l = absurd (not-suc-le-zero l)
-past_kept (r ∷ rs) (suc k) l = past_kept rs k (le_of_suc-le-suc l)
-
-module _ (rs : List Row) {k : ℕ} (e : k ≡ first_bad (kept_at rs) (length rs)) where
-  pub first_hit : k < length rs → first rs ≡ (row_at rs k).number
-  first_hit l = first_in rs (record {
-    place = k;
-    number = refl;
-    fails = ap (kept_at rs) e ∙ (found (kept_at rs) (length rs)).fails (omega arith);
-    earlier = λ j m. (found (kept_at rs) (length rs)).each j (omega arith) (omega arith);
-  })
-
-  pub first_done : length rs ≤ k → first rs ≡ 0
-  first_done l = first_none rs (λ j. go j (dec_lt j (length rs)))
-    where
-      go : (j : ℕ) → Dec (j < length rs) → kept_at rs j ≡ true
-      go j (yes m) = (found (kept_at rs) (length rs)).each j (omega arith) (omega arith)
-      go j (no m) = past_kept rs j (omega (arith, m))
 
 -- ---- one table after another
 

@@ -1,14 +1,12 @@
 -- The rate is the 64-bit float nearest to the quotient of the two counts; it is 0 exactly where none were dismissed,
 -- and 1 exactly where all were. Assumes nothing.
-use Rattle.wire.proofs.Usual.{◌≡◌, refl, sym, ap, ◌∙◌, subst, Bool, true, false, cond, not, true≢false, ℕ}
-use Rattle.wire.proofs.Usual.{zero, suc}
+use Rattle.wire.proofs.Usual.{◌≡◌, refl, sym, ap, ◌∙◌, subst, Bool, true, false, cond, true≢false, ℕ, zero, suc}
 use Rattle.wire.proofs.Usual.{◌+◌, ◌*◌, ◌<◌, ◌≤◌, dec_lt, arith, ltb, eq-eqb, ne_eqb}
 use Prim.Native.Nat.{◌^◌}
 use native.Mathlib.Nat.{mul-one, one-mul, zero-mul, mul_assoc, mul_comm, mul-pos, mul-le-mul}
 use lib.Dec.{T}
 use lib.IntN.{pos}
-use lib.Ieee.{Float, Format, prec, emax, low, units, odd, nan, inf, fin, binary64, up, down, round, div, of_int, eq}
-use lib.Ieee.{le}
+use lib.Ieee.{Float, Format, prec, emax, low, units, odd, nan, inf, fin, binary64, up, down, round, div, of_int, eq, le}
 use lib.Ieee.{is_nan, to_bits}
 use lib.Ieee.Exact.{HasValue}
 use lib.Ieee.Back.{round_whole}
@@ -102,12 +100,6 @@ module _ (n d : ℕ) (some : 0 < n) (few : n ≤ count_most) (part : d ≤ n) wh
           (sym rate_nearest ∙ e) (most l)))
 
 -- ---- its bits
-
-pub no_nan : (x : Float) → eq x x ≡ true → T (not (is_nan x))
-unfolding eq is_nan
-no_nan nan h = absurd (true≢false (sym h))
-no_nan (inf s) h = tt
-no_nan (fin s m e) h = tt
 
 units_real : (f : Format) (s : Bool) (q k : ℕ) → is_nan (units f s q k) ≡ false
 unfolding units odd is_nan

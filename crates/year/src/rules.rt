@@ -1,8 +1,7 @@
 // The rules of a ledger (02, W4), and what stands for one that is not kept.
-ghost use Rattle.std.specs.Prelude.{◌≡◌, ◌<◌};
+ghost use Rattle.std.specs.Prelude.{◌≡◌};
 ghost use Rattle.contents.specs.Contents.{body_of};
-ghost use Rattle.year.specs.Ledger.{month_count, finding_count, finding_at, values_ok, kept, kept_in, months_ok};
-ghost use Rattle.year.specs.Ledger.{number_of};
+ghost use Rattle.year.specs.Ledger.{finding_count, values_ok, kept, months_ok, number_of};
 
 // The months as entries of the contents table, and the table's size.
 pub const BODIES: u8 = 12;

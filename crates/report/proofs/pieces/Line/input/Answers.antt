@@ -14,17 +14,17 @@ overflow_cast-v c =
     let magnitude = ap (λ (s : Signed). s.mag) c.load-v.ensures in
     record { fits = rw magnitude (value_small c.args.t c.args.w (omega arith)) }
 
-pub returns-clause-text : goal.returns-clause-text
-returns-clause-text c =
+pub returns : goal.returns
+returns c =
     let z = value c.args.t c.args.w in
     let sign = ap (λ (s : Signed). s.neg) c.load-v.ensures in
     let magnitude = ap (λ (s : Signed). s.mag) c.load-v.ensures in
     elim c.if-v.branch [
       | then-v w ↦
           rw (← (signed_minus z (sym sign ∙ w.if-v.true)), ← magnitude)
-          (next_of _ 32 _ c.add.ensures.text
-          (next_of _ 45 _ w.add-then-v.ensures.text (rw w.self-is at c.decimal.ensures.text)))
+          (next_of _ 32 _ c.add.ensures
+          (next_of _ 45 _ w.add-then-v.ensures (rw w.self-is at c.decimal.ensures)))
       | else-v w ↦
           rw (← (signed_plain z (sym sign ∙ w.if-v.false)), ← magnitude)
-          (next_of _ 32 _ c.add.ensures.text (rw w.self-is at c.decimal.ensures.text))
+          (next_of _ 32 _ c.add.ensures (rw w.self-is at c.decimal.ensures))
     ]
