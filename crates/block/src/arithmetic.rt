@@ -12,7 +12,7 @@ use kind::Kind;
 use numbers::{NumType, Op, OutOfRange, Rounding};
 
 // The result of the two inputs in the output's type; DIV alone has a rounding. (The operation is known in each arm, so
-// that the compiled code looks at the kind once: with one call for all, ADD takes an eighth more instructions.)
+// that the compiled code looks at the kind once: with one call for all, ADD takes a tenth more instructions.)
 #[tactic(auto, unfolding(crate::specs::Arithmetic::result_of, crate::specs::Arithmetic::op_of))]
 fn result_of(kind: u8, p: &[u8], x: u32, y: u32) -> Result<u32, OutOfRange>
     ensures { result ≡ result_of kind p.now x y }

@@ -1,9 +1,9 @@
 // Which bytes of a block are well formed.
-ghost use Rattle.std.specs.Prelude.{◌≡◌};
-ghost use Rattle.block.specs.State.{is_counting};
+ghost use Rattle.std.specs.Prelude.{◌≡◌, cond, eqb};
+ghost use Rattle.block.specs.State.{ERROR, is_counting};
 ghost use Rattle.block.specs.Formed.{decouple_code, arithmetic_code, twohand_code, untimed, zero_outside};
-ghost use Rattle.block.specs.Formed.{decouple_ok, arithmetic_diagnosis, arithmetic_ok, twohand_bits};
-ghost use Rattle.block.specs.Formed.{twohand_diagnosis, pair_time_ok, entry_ok, twohand_ok, formed, well_formed};
+ghost use Rattle.block.specs.Formed.{decouple_ok, arithmetic_ok, twohand_bits};
+ghost use Rattle.block.specs.Formed.{pair_time_ok, entry_ok, twohand_ok, formed, well_formed};
 
 use crate::state::decoded;
 use crate::twohand::is_waiting;
@@ -58,14 +58,11 @@ fn decouple_ok(c: BlockState) -> bool
     decouple_code(c.code) & (c.diagnosis == 0) & untimed(c) & (c.output < 256) & zero_outside(c)
 }
 
-fn arithmetic_diagnosis(code: u8, d: u16) -> bool
-    ensures { result ≡ arithmetic_diagnosis code d }
+// A diagnosis is one of the family's in ERROR, and 0 elsewhere.
+fn diagnosis_ok(code: u8, d: u16, known: bool) -> bool
+    ensures { result ≡ cond (eqb code ERROR) known (eqb d 0) }
 {
-    if code == ERROR {
-        matches!(d, 1 | 2)
-    } else {
-        d == 0
-    }
+    if code == ERROR { known } else { d == 0 }
 }
 
 // t is the output's type.
@@ -74,7 +71,7 @@ fn arithmetic_ok(t: u8, c: BlockState) -> bool
     ensures { result ≡ arithmetic_ok t c }
 {
     arithmetic_code(c.code)
-        & arithmetic_diagnosis(c.code, c.diagnosis)
+        & diagnosis_ok(c.code, c.diagnosis, matches!(c.diagnosis, 1 | 2))
         & untimed(c)
         & NumType::from(t).fits(c.output)
         & zero_outside(c)
@@ -93,17 +90,6 @@ fn twohand_bits(l: Limits, d: u16) -> bool
         & ((d / 4 % 2 == 0) | (0 < l.between))
 }
 
-#[tactic(auto, unfolding(crate::specs::Formed::twohand_diagnosis))]
-fn twohand_diagnosis(l: Limits, code: u8, d: u16) -> bool
-    ensures { result ≡ twohand_diagnosis l code d }
-{
-    if code == ERROR {
-        twohand_bits(l, d)
-    } else {
-        d == 0
-    }
-}
-
 #[tactic(auto, unfolding(crate::specs::Formed::pair_time_ok))]
 fn pair_time_ok(d: u16, code: u8, time: u16) -> bool
     ensures { result ≡ pair_time_ok d code time }
@@ -118,12 +104,12 @@ fn entry_ok(t: u16, code: u8, time: u16) -> bool
     (time <= t) & ((time == 0) | is_waiting(code))
 }
 
-#[tactic(auto, unfolding(crate::specs::Formed::twohand_ok))]
+#[tactic(auto, unfolding(crate::specs::Formed::twohand_ok, crate::specs::Formed::twohand_diagnosis))]
 fn twohand_ok(l: Limits, c: BlockState) -> bool
     ensures { result ≡ twohand_ok l c }
 {
     twohand_code(c.code)
-        & twohand_diagnosis(l, c.code, c.diagnosis)
+        & diagnosis_ok(c.code, c.diagnosis, twohand_bits(l, c.diagnosis))
         & pair_time_ok(l.first, c.code, c.first)
         & pair_time_ok(l.second, c.code, c.second)
         & entry_ok(l.between, c.code, c.entry)

@@ -1,4 +1,5 @@
 pub mod Stretches
+pub mod Linking
 pub mod Marking
 pub mod Numbers
 pub mod Facts

@@ -4,9 +4,8 @@ ghost use Rattle.std.specs.Prelude.{◌≡◌, ◌<◌, ◌≤◌};
 ghost use Rattle.wire.specs.Places.{all};
 ghost use Rattle.project.specs.Project.{block_count, link_count, output_count};
 ghost use Rattle.casefile.specs.Rules.{passes, link_passes, block_passes, output_passes, channel_rule, channels_ok};
-ghost use Rattle.casefile.specs.Asks.{Marked, channels_by};
+ghost use Rattle.casefile.specs.Asks.{Marked, mark_of, number_of, channels_by};
 
-use crate::links;
 use kind::Family;
 use project::Source;
 
@@ -16,9 +15,7 @@ const PORTS: usize = 8;
 const MARKS: usize = 512;
 
 // A mark is set for an output port, for what a link names, for a block's links, for all links, for O.
-// (Over places and not over `chunks_exact`: tried, and the loop's goals grew too large to be checked. A mark is a
-// number, as `channel_rule` of specs/ compares it.)
-fn mark(marks: &mut [u8; MARKS], block: u8, port: u8)
+fn mark(marks: &mut [bool; MARKS], block: u8, port: u8)
     ensures { Marked marks.old marks.new (passes (Some (Source.Output block port))) }
 {
     let b = block as usize;
@@ -29,11 +26,11 @@ fn mark(marks: &mut [u8; MARKS], block: u8, port: u8)
     if PORTS <= p {
         return;
     }
-    marks[PORTS * b + p] = 1;
+    marks[PORTS * b + p] = true;
 }
 
 #[tactic(auto, unfolding(crate::specs::Rules::passes))]
-fn mark_source(marks: &mut [u8; MARKS], s: Option<Source>)
+fn mark_source(marks: &mut [bool; MARKS], s: Option<Source>)
     ensures { Marked marks.old marks.new (passes s) }
 {
     match s {
@@ -42,7 +39,7 @@ fn mark_source(marks: &mut [u8; MARKS], s: Option<Source>)
     }
 }
 
-fn mark_links(marks: &mut [u8; MARKS], r: &[u8])
+fn mark_links(marks: &mut [bool; MARKS], r: &[u8])
     ensures { Marked marks.old marks.new
         (λ b p. all (link_passes r.now b p) link_count) }
 {
@@ -52,44 +49,51 @@ fn mark_links(marks: &mut [u8; MARKS], r: &[u8])
 }
 
 #[tactic(auto, unfolding(project::specs::Project::block_count))]
-fn mark_blocks(marks: &mut [u8; MARKS], blocks: &[u8])
+fn mark_blocks(marks: &mut [bool; MARKS], blocks: &[u8])
     ensures { Marked marks.old marks.new
         (λ b p. all (block_passes blocks.now b p) (block_count blocks.now)) }
 {
-    for a in 0..blocks.len() / project::BLOCK_SIZE {
-        mark_links(marks, project::block_record(blocks, a));
+    for r in blocks.chunks_exact(project::BLOCK_SIZE) {
+        mark_links(marks, r);
     }
 }
 
 #[tactic(auto, unfolding(project::specs::Project::output_count))]
-fn mark_outputs(marks: &mut [u8; MARKS], outputs: &[u8])
+fn mark_outputs(marks: &mut [bool; MARKS], outputs: &[u8])
     ensures { Marked marks.old marks.new
         (λ b p. all (output_passes outputs.now b p) (output_count outputs.now)) }
 {
-    for o in 0..outputs.len() / project::OUTPUT_SIZE {
-        let r = project::output_record(outputs, o);
+    for r in outputs.chunks_exact(project::OUTPUT_SIZE) {
         mark(marks, project::output_block(r), project::output_port(r));
     }
 }
 
 // A DECOUPLE channel's input is linked exactly if its output is read.
 #[tactic(auto, unfolding(crate::specs::Rules::channel_rule_of))]
-fn channel_rule(r: &[u8], port: u8, read: u8) -> bool
-    ensures { result ≡ channel_rule r.now port read }
+fn channel_rule(r: &[u8], port: u8, read: bool) -> bool
+    ensures { result ≡ channel_rule r.now port (number_of read) }
 {
     match kind::family_of(project::kind_of(r)) {
-        Some(Family::Decouple) => links::link_bit(project::source_of(r, port)) == read,
+        Some(Family::Decouple) => project::source_of(r, port).is_some() == read,
         Some(Family::Twohand | Family::Arithmetic) | None => true,
     }
 }
 
+// Whether the port of block b is marked.
+fn is_marked(marks: &[bool; MARKS], b: usize, port: u8) -> bool
+    requires { b < 64 }
+    ensures { result ≡ mark_of marks.now b port }
+{
+    marks.get(PORTS * b + (port as usize)) == Some(&true)
+}
+
 // The channels of block b by the marks.
-fn block_by_marks(blocks: &[u8], marks: &[u8; MARKS], b: usize) -> bool
+fn block_by_marks(blocks: &[u8], marks: &[bool; MARKS], b: usize) -> bool
     requires { b < 64 }
     ensures { result ≡ channels_by blocks.now marks.now b }
 {
     let r = project::block_record(blocks, b);
-    (0..project::LINKS).all(|p| channel_rule(r, p, wire::byte(marks, PORTS * b + (p as usize))))
+    (0..project::LINKS).all(|p| channel_rule(r, p, is_marked(marks, b, p)))
 }
 
 #[tactic(auto, unfolding(project::specs::Project::block_count))]
@@ -97,7 +101,7 @@ pub fn channels_ok(blocks: &[u8], outputs: &[u8]) -> bool
     requires { block_count blocks.now ≤ 64 }
     ensures { result ≡ all (channels_ok blocks.now outputs.now) (block_count blocks.now) }
 {
-    let mut marks = [0u8; MARKS];
+    let mut marks = [false; MARKS];
     mark_blocks(&mut marks, blocks);
     mark_outputs(&mut marks, outputs);
     (0..blocks.len() / project::BLOCK_SIZE).all(|b| block_by_marks(blocks, &marks, b))

@@ -54,7 +54,7 @@ pub fn check(file: &[u8]) -> Result<(), Rule>
     Ok(())
 }
 
-// The paper's number of an answer, 0 for accepted.
+// The paper's number of an answer, 0 for accepted. (A `From` for a `Result` cannot stand outside of std.)
 pub fn number_of(checked: Result<(), Rule>) -> u8
     ensures { result ≡ number_of checked }
 {

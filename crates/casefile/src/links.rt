@@ -1,8 +1,8 @@
 // The links (01, "Turned down", 7). r is the record of the block that has the link at `port`.
-ghost use Rattle.std.specs.Prelude.{◌≡◌, ◌<◌};
+ghost use Rattle.std.specs.Prelude.{◌≡◌, ◌<◌, eqb};
 ghost use Rattle.wire.specs.Places.{all};
 ghost use Rattle.project.specs.Project.{input_count, block_count, link_count};
-ghost use Rattle.casefile.specs.Rules.{link_known, source_fits, linked, bit_of, hand_active, link_active};
+ghost use Rattle.casefile.specs.Rules.{link_known, source_fits, bit_of, hand_active, link_active};
 ghost use Rattle.casefile.specs.Rules.{link_ok, links_ok};
 
 use kind::Family;
@@ -49,32 +49,25 @@ fn source_fits(inputs: &[u8], blocks: &[u8], r: &[u8], port: u8, s: Option<Sourc
     }
 }
 
-// 1 for what is linked, 0 for nothing.
-pub fn link_bit(s: Option<Source>) -> u8
-    ensures { result ≡ linked s }
-{
-    u8::from(s.is_some())
-}
-
-// Bit `port` of a mask of 4 bits.
+// Whether a mask of 4 bits has bit `port`.
 #[tactic(auto, unfolding(crate::specs::Rules::bit_of))]
-fn bit_of(mask: u8, port: u8) -> u8
+fn has_bit(mask: u8, port: u8) -> bool
     requires { port < 4 }
-    ensures { result ≡ bit_of mask port }
+    ensures { result ≡ eqb (bit_of mask port) 1 }
 {
-    (mask >> port) % 2
+    (mask >> port) % 2 == 1
 }
 
 // A TWOHAND input is linked exactly if it is active.
-#[tactic(auto, unfolding(crate::specs::Rules::hand_active))]
+#[tactic(auto, unfolding(crate::specs::Rules::hand_active), using(crate::proofs::Linking::linked_bit))]
 fn hand_active(r: &[u8], port: u8) -> bool
     ensures { result ≡ hand_active r.now port }
 {
     if 4 <= port {
         return true;
     }
-    link_bit(project::source_of(r, port))
-        == bit_of(kind::active_mask(project::parameters_of(r)), port)
+    project::source_of(r, port).is_some()
+        == has_bit(kind::active_mask(project::parameters_of(r)), port)
 }
 
 #[tactic(auto, unfolding(crate::specs::Rules::link_active_of))]

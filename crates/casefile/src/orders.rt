@@ -13,8 +13,8 @@ pub fn orders_ok(blocks: &[u8]) -> bool
 {
     let n = blocks.len() / project::BLOCK_SIZE;
     let mut seen = [false; 64];
-    for b in 0..n {
-        let e = project::order_of(project::block_record(blocks, b)) as usize;
+    for r in blocks.chunks_exact(project::BLOCK_SIZE) {
+        let e = project::order_of(r) as usize;
         if n <= e {
             return false;
         }

@@ -95,6 +95,7 @@ pub fn keeps(file: &[u8], bodies: Bodies, r: Rule) -> bool
         outputs,
         trace,
     } = bodies;
+    // (A match and no table of functions: a rule is the answer too, and each test asks for other bodies.)
     match r {
         Rule::Size => size_ok(file),
         Rule::Contents => contents::ok(file, super::BODIES),

@@ -2,25 +2,33 @@
 // n is 5). Every public function is total: a byte past the end reads as 0.
 #![tactic(auto)]
 
-ghost use Rattle.std.specs.Prelude.{◌≡◌};
+ghost use Rattle.std.specs.Prelude.{◌+◌, ◌*◌, ◌≡◌};
+ghost use Rattle.wire.specs.Words.{le32};
 ghost use Rattle.wire.specs.Places.{all};
-ghost use Rattle.contents.specs.Contents.{body_start, body_size, follows_ok, contents_ok};
+ghost use Rattle.contents.specs.Contents.{entry_size, body_start, body_size, follows_ok, contents_ok};
 
 const ENTRY_SIZE: usize = 8;
+
+// The word at byte `at` of body e's entry.
+fn word_of(file: &[u8], e: u8, at: u8) -> u32
+    ensures { result ≡ le32 file.now (entry_size * e + at) }
+{
+    wire::read32(file, ENTRY_SIZE * (e as usize) + (at as usize))
+}
 
 // Where body e starts, and how long it is, as its entry says.
 #[tactic(auto, unfolding(crate::specs::Contents::body_start))]
 pub fn start(file: &[u8], e: u8) -> u32
     ensures { result ≡ body_start file.now e }
 {
-    wire::read32(file, ENTRY_SIZE * (e as usize))
+    word_of(file, e, 0)
 }
 
 #[tactic(auto, unfolding(crate::specs::Contents::body_size))]
 pub fn size(file: &[u8], e: u8) -> u32
     ensures { result ≡ body_size file.now e }
 {
-    wire::read32(file, ENTRY_SIZE * (e as usize) + 4)
+    word_of(file, e, 4)
 }
 
 // Body e + 1 starts where body e ends.

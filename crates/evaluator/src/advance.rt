@@ -27,20 +27,15 @@ pub fn advance(
         state.old }
 {
     let phases = crate::groups::decide(groups, c.groups, rec, errors, state);
-    let layout = Layout {
-        blocks,
-        groups: c.groups,
-        count: c.blocks,
-    };
     let turns = Turns {
-        layout,
+        layout: Layout::of(c, blocks),
         rec,
         phases: &phases,
     };
     if !turns.take(ranks, state, findings) {
         return 0;
     }
-    crate::findings::pack(findings, c.blocks)
+    crate::findings::pack(findings)
 }
 
 // A cycle with its outputs, of a call that was checked.
@@ -67,11 +62,7 @@ pub fn whole_cycle(
         state.old }
 {
     wire::clear(findings);
-    let layout = Layout {
-        blocks,
-        groups: c.groups,
-        count: c.blocks,
-    };
+    let layout = Layout::of(c, blocks);
     let order = crate::ranks::ranks(blocks);
     let errors = crate::groups::error_groups(&layout, state);
     let count = advance(c, groups, blocks, &order, &errors, rec, state, findings);

@@ -74,11 +74,7 @@ pub fn state_ok(c: Counts, blocks: &[u8], state: &[u8]) -> bool
     requires { Whole blocks.now c.groups c.blocks }
     ensures { result ≡ formed_with c.groups blocks.now state.now }
 {
-    let layout = Layout {
-        blocks,
-        groups: c.groups,
-        count: c.blocks,
-    };
+    let layout = Layout::of(c, blocks);
     groups_formed(state, c.groups) & cells_formed(&layout, state)
 }
 

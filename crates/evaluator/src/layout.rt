@@ -8,7 +8,7 @@ ghost use Rattle.evaluator.specs.Asks.{Whole, Sized};
 
 use crate::GROUPS_AT;
 use block::STATE_SIZE;
-use project::BLOCK_SIZE;
+use project::{BLOCK_SIZE, Counts};
 
 // The body of `count` blocks, and how many groups there are.
 #[derive(Clone, Copy)]
@@ -20,6 +20,20 @@ pub struct Layout<'a> {
 }
 
 impl<'a> Layout<'a> {
+    // That of a project with these counts.
+    pub fn of(c: Counts, blocks: &'a [u8]) -> Layout<'a>
+        requires { Whole blocks.now c.groups c.blocks }
+        ensures blocks { result.blocks.now ≡ blocks.now }
+        ensures groups { result.groups ≡ c.groups }
+        ensures count { result.count ≡ c.blocks }
+    {
+        Layout {
+            blocks,
+            groups: c.groups,
+            count: c.blocks,
+        }
+    }
+
     // The record of block b.
     #[tactic(auto, using(crate::proofs::Reading::record_is))]
     pub fn record(&self, b: usize) -> &'a [u8]
@@ -31,7 +45,8 @@ impl<'a> Layout<'a> {
         &self.blocks[at..to]
     }
 
-    // Where its bytes start in a state.
+    // Where its bytes start in a state. (A method that lends them as `&mut` was tried, and its `ensures*` did not
+    // close: that is proved of an element or a call's result, and not of a range.)
     pub fn place(&self, b: usize) -> usize
         requires { b < block_count self.now.blocks.now }
         ensures { result ≡ state_head self.now.groups + state_size * b }

@@ -14,6 +14,7 @@ pub fn ranks(blocks: &[u8]) -> [u8; 64]
     let mut at = [0u8; 64];
     for (b, r) in blocks.chunks_exact(BLOCK_SIZE).enumerate() {
         let e = project::order_of(r) as usize;
+        // (No plainer as `b as u8`: that nothing is lost would need `b < 64` as a fact here.)
         at[e] = (b % 256) as u8;
     }
     at

@@ -5,7 +5,7 @@ ghost use Rattle.block.specs.State.{state_size, fresh_bytes};
 
 use block::STATE_SIZE;
 
-// The fresh bytes of n blocks.
+// The fresh bytes of n blocks. (By number: once `chunks_exact_mut` has lent it, a proof knows a slice's length alone.)
 fn fresh_blocks(cells: &mut [u8], n: usize)
     requires { length cells.old ≡ state_size * n }
     ensures { cells.new ≡ gather n (λ b. fresh_bytes) }

@@ -81,6 +81,7 @@ impl Turns<'_, '_> {
             return;
         }
         let r = self.layout.record(b);
+        // (No plainer as `b as u8`: that nothing is lost would need `b < 64` as a fact here.)
         let number = (b % 256) as u8;
         let s = self.layout.cell(state, b);
         let finding = block::finding(number, project::group_of(r), project::kind_of(r), x, y, s);

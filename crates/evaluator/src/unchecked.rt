@@ -25,15 +25,12 @@ pub fn groups_in_error(c: Counts, blocks: &[u8], state: &[u8]) -> [u8; 8]
     requires grouped { Grouped blocks.now c.blocks }
     ensures { result ≡ error_list c.groups blocks.now state.now }
 {
-    let layout = Layout {
-        blocks,
-        groups: c.groups,
-        count: c.blocks,
-    };
+    let layout = Layout::of(c, blocks);
     crate::groups::error_groups(&layout, state)
 }
 
-// One cycle of an accepted project from a well-formed state.
+// One cycle of an accepted project from a well-formed state. (What it is lent stands one by one: the theorem
+// `evaluator_one` of the crate `demands` speaks of these nine arguments.)
 pub fn step(
     c: Counts,
     groups: &[u8],

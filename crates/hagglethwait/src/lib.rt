@@ -1,6 +1,6 @@
-// The product's calls for programs in other languages, over numbers, byte slices and arrays. The static library
-// `hagglethwait_c` has each of them with C's calling convention. No function requires anything; refused, a call writes
-// nothing.
+// The product's calls for programs in other languages, over numbers, byte slices and arrays: the C interface has no
+// `Result` and no enum that carries a number. The static library `hagglethwait_c` has each of them with C's calling
+// convention. No function requires anything; refused, a call writes nothing.
 #![tactic(auto)]
 
 ghost use Rattle.std.specs.Prelude.{◌≡◌};

@@ -59,30 +59,29 @@ pub fn is_device(device: u8) -> bool
     device_of(device).is_some()
 }
 
-// A byte that is no device's asks that Run is linked, and allows no bit.
-fn is_tied(device: u8) -> bool
-    ensures { result ≡ is_tied (device_of device) }
-{
-    device_of(device).is_none_or(|d| d.tied)
-}
+// The row of a byte that is no device's: it asks that Run is linked, and allows no bit.
+const NO_DEVICE: Features = Features {
+    twohand: false,
+    arithmetic: false,
+    tied: true,
+    controls: 0,
+    pending: 0,
+};
 
-fn controls_of(device: u8) -> u8
-    ensures { result ≡ controls_of (device_of device) }
+// The row that a byte goes by: its device's, or that of no device.
+fn row_for(device: u8) -> Features
+    ensures tied { result.tied ≡ is_tied (device_of device) }
+    ensures controls { result.controls ≡ controls_of (device_of device) }
+    ensures pending { result.pending ≡ pending_of (device_of device) }
 {
-    device_of(device).map_or(0, |d| d.controls)
-}
-
-fn pending_of(device: u8) -> u8
-    ensures { result ≡ pending_of (device_of device) }
-{
-    device_of(device).map_or(0, |d| d.pending)
+    device_of(device).unwrap_or(NO_DEVICE)
 }
 
 // A group's byte of G: 1 if Run is linked, 0 if not, and 1 where the device asks for it.
 pub fn group_rule(device: u8, run: u8) -> bool
     ensures { result ≡ group_rule device run }
 {
-    (run <= 1) & (!is_tied(device) | (run == 1))
+    (run <= 1) & (!row_for(device).tied | (run == 1))
 }
 
 // No bit of v that the mask has not.
@@ -118,12 +117,12 @@ pub fn err_ack(v: u8) -> bool
 pub fn control_rule(device: u8, linked: u8, v: u8) -> bool
     ensures { result ≡ control_rule device linked v }
 {
-    is_within(v, controls_of(device)) & ((linked == 1) | !is_run(v))
+    is_within(v, row_for(device).controls) & ((linked == 1) | !is_run(v))
 }
 
 // Whether a group's byte of a record makes the group pending.
 pub fn is_pending(device: u8, v: u8) -> bool
     ensures { result ≡ is_pending device v }
 {
-    meets(v, pending_of(device))
+    meets(v, row_for(device).pending)
 }

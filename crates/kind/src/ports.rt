@@ -32,24 +32,14 @@ pub fn ports_out(kind: u8) -> u8
     ports_of(family_of(kind)).1
 }
 
-// The type of an input port of a family, and of an output port.
-fn type_in_of(family: Option<Family>, p: &[u8], port: u8) -> u8
-    ensures { result ≡ type_in_of family p.now port }
+// The type of an input port of a family, and of the output port with its number.
+fn types_of(family: Option<Family>, p: &[u8], port: u8) -> (u8, u8)
+    ensures { result ≡ record { 0 = type_in_of family p.now port; 1 = type_out_of family p.now port } }
 {
     match (family, port) {
-        (Some(Family::Arithmetic), 0) => first_type(p),
-        (Some(Family::Arithmetic), _) => second_type(p),
-        (Some(Family::Decouple | Family::Twohand) | None, _) => BOOL,
-    }
-}
-
-fn type_out_of(family: Option<Family>, p: &[u8], port: u8) -> u8
-    ensures { result ≡ type_out_of family p.now port }
-{
-    match (family, port) {
-        (Some(Family::Arithmetic), 0) => BOOL,
-        (Some(Family::Arithmetic), _) => output_type(p),
-        (Some(Family::Decouple | Family::Twohand) | None, _) => BOOL,
+        (Some(Family::Arithmetic), 0) => (first_type(p), BOOL),
+        (Some(Family::Arithmetic), _) => (second_type(p), output_type(p)),
+        (Some(Family::Decouple | Family::Twohand) | None, _) => (BOOL, BOOL),
     }
 }
 
@@ -57,11 +47,11 @@ fn type_out_of(family: Option<Family>, p: &[u8], port: u8) -> u8
 pub fn type_in(kind: u8, p: &[u8], port: u8) -> u8
     ensures { result ≡ type_in kind p.now port }
 {
-    type_in_of(family_of(kind), p, port)
+    types_of(family_of(kind), p, port).0
 }
 
 pub fn type_out(kind: u8, p: &[u8], port: u8) -> u8
     ensures { result ≡ type_out kind p.now port }
 {
-    type_out_of(family_of(kind), p, port)
+    types_of(family_of(kind), p, port).1
 }

@@ -3,6 +3,7 @@
 // The file descriptor of standard input. (The crate `io` says how many bytes came; `read_exact` of `std::io` does not.)
 const STDIN_FILENO: i32 = 0;
 
+// (`trace` has the same four lines: a `main` for both would stand in a third crate.)
 fn main() {
     // One byte more than a ledger may have.
     let mut space = [0u8; 65537];

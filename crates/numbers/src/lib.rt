@@ -61,6 +61,7 @@ impl Signed {
         }
     }
 
+    // (The bound stands in three contracts: a type for it would be a second `Signed`, since results go past it.)
     fn plus(self, b: Signed) -> Signed
         requires { (self.mag < 2 ^ 32) × (b.mag < 2 ^ 32) }
         ensures { z_of result ≡ z_of self +ℤ z_of b }

@@ -17,7 +17,8 @@ fn month_front(month: u8, findings: u32, dismissed: u32) -> Line
     line
 }
 
-// The line of a month that has findings; `bits` are those of its rate.
+// The line of a month that has findings; `bits` are those of its rate. (Two functions for a month: the theorem
+// `report_one` of demands speaks of each.)
 #[tactic(auto, unfolding(crate::specs::LedgerLines::rate_line), using(crate::proofs::Lines::lengths))]
 pub fn rate_line(out: &mut [u8], month: u8, findings: u32, dismissed: u32, bits: u64) -> usize
     ensures { Printed (rate_line month findings dismissed bits) out.old out.new result }
@@ -37,7 +38,7 @@ pub fn no_rate_line(out: &mut [u8], month: u8, findings: u32, dismissed: u32) ->
     line.print(out)
 }
 
-// The line of the month of a bend.
+// The line of the month of a bend. (It and `refused_line` differ in a word: `report_one` speaks of each.)
 #[tactic(auto, unfolding(crate::specs::LedgerLines::bend_line), using(crate::proofs::Lines::lengths))]
 pub fn bend_line(out: &mut [u8], month: u8) -> usize
     ensures { Printed (bend_line month) out.old out.new result }

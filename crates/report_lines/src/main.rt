@@ -80,7 +80,8 @@ fn some() -> bool {
     n == ROOM
 }
 
-// Nothing says that the input ends, so the turns are counted, up to a number that no run reaches.
+// Nothing says that the input ends, so the turns are counted, up to a number that no run reaches. (`number_vectors`
+// has the same lines: a loop for both would stand in a third crate.)
 fn main() {
     for _ in 0..u64::MAX {
         if !some() {

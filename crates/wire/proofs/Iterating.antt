@@ -163,6 +163,26 @@ module _ (w : ℕ) (big : 0 < w) (l : List ℕ) (s : Enumerate (ChunksExact ℕ)
     pub rows_end : r ≡ None → length ys ≡ length l / w
     rows_end e = (YieldsList-end numbered ys t had r u e next).1 ∙ long
 
+-- a `for` over the whole records of a buffer that has had the turns of ys
+module _ (w : ℕ) (big : 0 < w) (l : List ℕ) (s : ChunksExact ℕ) (rest : chunks_exact_rest s ≡ l)
+    (size : chunks_exact_size s ≡ w) (ys : List (Bor (List ℕ))) (t u : ChunksExact ℕ)
+    (had : Yields chunks_exact_steps s ys t) (r : Option (Bor (List ℕ))) (next : chunks_exact_steps t r u) where
+  given : YieldsList chunks_exact_steps (λ (y : Bor (List ℕ)). y.now) s (rows w (length l / w) l)
+  given = YieldsList-from_chunks w big (length l / w) l rest size refl
+
+  -- which record the next turn has
+  pub record_turn : (x : Bor (List ℕ)) → r ≡ Some x →
+      (length ys < length l / w) × (x.now ≡ take w (drop (w * length ys) l))
+  record_turn x e =
+      let k = length ys in
+      let turn = YieldsList-turn given ys t had r u x e next in
+      let here : k < length l / w = omega (arith, turn.0, length-rows w (length l / w) l) in
+      (here, turn.1 ∙ row_in w (length l / w) l k x.now here)
+
+  -- there is none: it has had all
+  pub records_end : r ≡ None → length ys ≡ length l / w
+  records_end e = (YieldsList-end given ys t had r u e next).1 ∙ length-rows w (length l / w) l
+
 -- over two lists side by side, of which the second may be longer
 pub all_pairs : {X Y : Type 0} (p : ℕ → Bool) (t : X × Y → Bool) (d : X × Y) (n : ℕ) (xs : List X) (ys : List Y)
     → length xs ≡ n → n ≤ length ys → ((j : ℕ) → j < n → t (get_or xs j d.0, get_or ys j d.1) ≡ p j)

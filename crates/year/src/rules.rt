@@ -63,7 +63,7 @@ pub fn body_of(file: &[u8], m: u8) -> &[u8]
     wire::part(file, start, size)
 }
 
-// How many findings a month has, and the bytes of one.
+// How many findings a month has.
 #[tactic(auto, unfolding(crate::specs::Ledger::finding_count))]
 pub fn finding_count(month: &[u8]) -> usize
     ensures { result ≡ finding_count month.now }

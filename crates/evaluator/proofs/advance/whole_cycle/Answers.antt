@@ -8,11 +8,15 @@ pub ranks-order-requires : goal.ranks-order-requires
 ranks-order-requires c = in_order c.requires
 
 pub error_groups-errors-requires-clause-state_len : goal.error_groups-errors-requires-clause-state_len
-error_groups-errors-requires-clause-state_len c = (in_place c.requires c.args.state.now c.requires.state).state
+error_groups-errors-requires-clause-state_len c =
+    let o = c.of-layout.ensures in
+    rw (o.blocks, o.groups) (in_place c.requires c.args.state.now c.requires.state).state
 
 pub write_outputs-requires-clause-state_len : goal.write_outputs-requires-clause-state_len
 write_outputs-requires-clause-state_len c =
     let a = c.args in
+    let o = c.of-layout.ensures in
+    rw (o.blocks, o.groups)
     (in_place c.requires _
     (ap length c.advance-count.ensures.left
     ∙ new_long a.groups.now a.blocks.now a.rec.now a.state.now c.requires.sound)).state
@@ -21,4 +25,6 @@ pub write_outputs-requires-clause-outputs_len : goal.write_outputs-requires-clau
 write_outputs-requires-clause-outputs_len c = outputs_long c.requires
 
 pub returns-clause-shown : goal.returns-clause-shown
-returns-clause-shown c = shown_new c.requires _ _ c.advance-count.ensures.left c.write_outputs.ensures
+returns-clause-shown c =
+    let o = c.of-layout.ensures in
+    shown_new c.requires _ _ c.advance-count.ensures.left (rw (o.blocks, o.groups) at c.write_outputs.ensures)

@@ -1,5 +1,5 @@
 -- After the turn of block b the findings of the first b + 1 blocks are packed (`Packing`).
-use Rattle.wire.proofs.Usual.{◌≡◌, sym, ap, ◌∙◌, List, ℕ, ◌+◌, ◌*◌, ◌≤◌, ◌<◌, arith, length}
+use Rattle.wire.proofs.Usual.{◌≡◌, sym, ap, ◌∙◌, List, ℕ, ◌+◌, ◌*◌, ◌/◌, ◌≤◌, ◌<◌, arith, length}
 use Rattle.wire.proofs.Usual.{take, drop, replicate, length-drop, sets, length-take-le}
 use mathlib.Core.Path.{subst₂}
 use Rattle.project.specs.Project.{row_of}
@@ -39,7 +39,7 @@ loop-b-preserved c =
     let l = c.loop-b in
     let D = a.findings.now in
     let test = c.loop-b-test.true in
-    let fits = room D a.n l.b c.requires.long test in
+    let fits = room D (length D / finding_size) l.b c.requires.long test in
     let still = kept_slot finding_size (is_noted D) (note_in D) D l.findings l.k l.b l.invariant fits in
     let hit = c.is_noted.ensures ∙ noted_same D l.findings l.b still in
     let kept : List ℕ → ℕ → Type 0 = λ d k. Kept finding_size (is_noted D) (note_in D) D d k (l.b + 1) in
@@ -51,7 +51,7 @@ loop-b-preserved c =
           (note_same D l.findings l.b still)))
           (sym w.k-is)
           (kept_hit finding_size (is_noted D) (note_in D) D l.findings l.k l.b l.invariant
-          fits (sym hit ∙ w.if-is_noted.true) (note_long D a.n l.b c.requires.long test))
+          fits (sym hit ∙ w.if-is_noted.true) (note_long D (length D / finding_size) l.b c.requires.long test))
       | else-is_noted w ↦
           subst₂ kept (sym w.findings-is) (sym w.k-is)
           (kept_miss finding_size (is_noted D) (note_in D) D l.findings l.k l.b
