@@ -69,13 +69,15 @@ returns-clause-left c =
 pub returns-clause-told : goal.returns-clause-told
 returns-clause-told c =
     let o = c.of.ensures in
-    all_findings c.requires _ _ c.decide-phases.ensures.left c.decide-phases.ensures.phases _
-    (rw (o.blocks, o.groups, o.count) at c.take.ensures.told) _ (left_at (packable c.requires _ _ c.decide-phases.ensures.left c.decide-phases.ensures.phases _
-    (rw (o.blocks, o.groups, o.count) at c.take.ensures.told)) c.pack.ensures.left)
+    let decided = c.decide-phases.ensures in
+    let told = rw (o.blocks, o.groups, o.count) at c.take.ensures.told in
+    all_findings c.requires _ _ decided.left decided.phases _ told _
+    (left_at (packable c.requires _ _ decided.left decided.phases _ told) c.pack.ensures.left)
 
 pub returns-clause-count : goal.returns-clause-count
 returns-clause-count c =
     let o = c.of.ensures in
-    all_count c.requires _ _ c.decide-phases.ensures.left c.decide-phases.ensures.phases _
-    (rw (o.blocks, o.groups, o.count) at c.take.ensures.told) _ (count_at (packable c.requires _ _ c.decide-phases.ensures.left c.decide-phases.ensures.phases _
-    (rw (o.blocks, o.groups, o.count) at c.take.ensures.told)) c.pack.ensures.count)
+    let decided = c.decide-phases.ensures in
+    let told = rw (o.blocks, o.groups, o.count) at c.take.ensures.told in
+    all_count c.requires _ _ decided.left decided.phases _ told _
+    (count_at (packable c.requires _ _ decided.left decided.phases _ told) c.pack.ensures.count)
