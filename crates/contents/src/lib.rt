@@ -2,7 +2,7 @@
 // n is 5). Every public function is total: a byte past the end reads as 0.
 #![tactic(auto)]
 
-ghost use Rattle.std.specs.Prelude.{◌+◌, ◌*◌, ◌≡◌};
+ghost use Rattle.std.specs.Prelude.{◌+◌, ◌*◌, ◌≤◌, ◌≡◌, length};
 ghost use Rattle.wire.specs.Words.{le32};
 ghost use Rattle.wire.specs.Places.{all};
 ghost use Rattle.contents.specs.Contents.{entry_size, body_start, body_size, follows_ok, contents_ok};
@@ -31,13 +31,25 @@ pub fn size(file: &[u8], e: u8) -> u32
     word_of(file, e, 4)
 }
 
-// Body e + 1 starts where body e ends.
-#[tactic(auto, unfolding(crate::specs::Contents::follows_ok, crate::specs::Contents::body_start))]
+// The number in the four bytes from i on, which the file has.
+fn word(file: &[u8], i: usize) -> u32
+    requires { i + 4 ≤ length file.now }
+    ensures { result ≡ le32 file.now i }
+{
+    wire::word32(file[i], file[i + 1], file[i + 2], file[i + 3])
+}
+
+// Body e + 1 starts where body e ends. Where the file has both entries, one look at its size is enough.
 fn follows(file: &[u8], e: u8) -> bool
     ensures { result ≡ follows_ok file.now e }
 {
-    let next = ENTRY_SIZE * (e as usize + 1);
-    (wire::read32(file, next) as u64) == (start(file, e) as u64) + (size(file, e) as u64)
+    let at = ENTRY_SIZE * (e as usize);
+    let next = at + ENTRY_SIZE;
+    if file.len() < next + 4 {
+        return (wire::read32(file, next) as u64)
+            == (start(file, e) as u64) + (size(file, e) as u64);
+    }
+    (word(file, next) as u64) == (word(file, at) as u64) + (word(file, at + 4) as u64)
 }
 
 // Whether each body before the last ends where the next starts.

@@ -1,7 +1,10 @@
 // What the call for a ledger stores (02, W4): the two tables as columns of numbers, that with script closings first.
-ghost use Rattle.std.specs.Prelude.{◌≡◌, ◌++◌};
+ghost use Rattle.std.specs.Prelude.{◌≡◌, ◌<◌, ◌*◌, ◌++◌};
+ghost use Rattle.year.specs.Ledger.{month_count};
+ghost use Rattle.year.specs.Bends.{line_at};
 ghost use Rattle.hagglethwait.specs.Ledgers.{columns_of, bends_in};
 
+use std::array;
 use year::{Line, MONTHS, Year};
 
 // A column has a place for each month of both tables.
@@ -15,25 +18,26 @@ pub struct Columns {
     pub rates: [f64; PLACES],
 }
 
-// The lines of one table, and those of the other behind them.
-fn lines_of(every: &[Line; MONTHS], person: &[Line; MONTHS]) -> [Line; PLACES]
-    ensures { result ≡ every.now ++ person.now }
+// The line at a place of a column: those of the table with script closings first.
+fn line_at(every: &[Line; MONTHS], person: &[Line; MONTHS], place: usize) -> Line
+    requires { place < 2 * month_count }
+    ensures { result ≡ line_at (every.now ++ person.now) place }
 {
-    let mut lines = [every[0]; PLACES];
-    lines[..MONTHS].copy_from_slice(every);
-    lines[MONTHS..].copy_from_slice(person);
-    lines
+    if place < MONTHS {
+        every[place]
+    } else {
+        person[place - MONTHS]
+    }
 }
 
 // The columns of both tables' lines.
 pub fn columns_of(every: &[Line; MONTHS], person: &[Line; MONTHS]) -> Columns
     ensures { result ≡ columns_of every.now person.now }
 {
-    let lines = lines_of(every, person);
     Columns {
-        findings: lines.map(|l| l.findings),
-        dismissed: lines.map(|l| l.dismissed),
-        rates: lines.map(|l| l.rate),
+        findings: array::from_fn(|place| line_at(every, person, place).findings),
+        dismissed: array::from_fn(|place| line_at(every, person, place).dismissed),
+        rates: array::from_fn(|place| line_at(every, person, place).rate),
     }
 }
 

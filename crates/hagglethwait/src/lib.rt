@@ -13,6 +13,7 @@ ghost use Rattle.hagglethwait.specs.Ledgers.{findings_left, dismissed_left, rate
 
 mod ledgers;
 
+use ledgers::Columns;
 pub use ledgers::PLACES;
 
 // 0 for a case file, or the number with which it is turned down.
@@ -98,10 +99,14 @@ pub fn hagglethwait_ledger(
 {
     match year::year_of(file) {
         Ok(year) => {
-            let columns = ledgers::columns_of(&year.every.lines, &year.person.lines);
-            findings.copy_from_slice(&columns.findings);
-            dismissed.copy_from_slice(&columns.dismissed);
-            rates.copy_from_slice(&columns.rates);
+            let Columns {
+                findings: found,
+                dismissed: gone,
+                rates: rated,
+            } = ledgers::columns_of(&year.every.lines, &year.person.lines);
+            *findings = found;
+            *dismissed = gone;
+            *rates = rated;
             *bends = ledgers::bends_of(&year);
             0
         }

@@ -52,7 +52,7 @@ fn has(device: Option<Features>, family: Option<Family>) -> bool
         (Some(_), Some(Family::Decouple)) => true,
         (Some(d), Some(Family::Twohand)) => d.twohand,
         (Some(d), Some(Family::Arithmetic)) => d.arithmetic,
-        _ => false,
+        (Some(_), None) | (None, _) => false,
     }
 }
 

@@ -1,4 +1,4 @@
--- A line in the making: text behind what there is, and the library's digits as the definitions have them.
+-- A line in the making: text behind what there is, and the last digits of a number as the definitions have them.
 -- Assumes nothing.
 use Rattle.wire.proofs.Usual.{◌≡◌, refl, sym, ap, ◌∙◌, List, [], ◌∷◌, ◌++◌, ℕ, zero, suc, ◌+◌, ◌-◌}
 use Rattle.wire.proofs.Usual.{◌*◌, ◌/◌, ◌%◌, ◌≤◌, ◌<◌}
@@ -10,7 +10,7 @@ use lib.Seq.{sets-eq, take_at}
 use Rattle.io.specs.Digits.{last_digits, IsDigitCount, hex_digit_ascii}
 use Rattle.report.specs.Decimal.{decimal}
 use Rattle.report.specs.LedgerLines.{hexadecimal}
-use Rattle.report.proofs.Decimal.{decimal_small, decimal_more, decimal_ten}
+use Rattle.report.proofs.Decimal.{decimal_small, decimal_more}
 use Rattle.report.proofs.Hexadecimal.{hex_more, hex_none}
 
 -- text stored behind the first n bytes, where it has room
@@ -20,8 +20,8 @@ added l t n h =
     ∙ take_at (take n l ++ t) (drop (n + length t) l) (n + length t)
     (length-append (take n l) t ∙ ap (λ (k : ℕ). k + length t) (length-take-le n l (omega arith)))
 
--- the library's digits of a number are as many as it says
-length_last : (b k n : ℕ) → length (last_digits b k n) ≡ k
+-- as many digits of a number as are asked for
+pub length_last : (b k n : ℕ) → length (last_digits b k n) ≡ k
 length_last b zero n = refl
 length_last b (suc k) n =
     length-append (last_digits b k (n / b)) (hex_digit_ascii (n % b) ∷ []) ∙ omega (arith, length_last b k (n / b))
@@ -49,14 +49,19 @@ module _ {n k : ℕ} (h : IsDigitCount 10 1 n k) where
           let less : suc k - 1 ≡ k = omega arith in
           digits_decimal k n h.1 (λ m. rw less at (h.2 m))
 
-  pub count_ten : n < 4294967296 → k ≤ 10
-  count_ten l = omega (arith, sym (length_last 10 k n) ∙ ap length last-decimal, decimal_ten n l)
-
 -- in base 16 they are its hexadecimal digits
 pub last_hexadecimal : (k n : ℕ) → last_digits 16 k n ≡ hexadecimal k n
 last_hexadecimal zero n = sym (hex_none n)
 last_hexadecimal (suc k) n =
     ap (λ (s : List ℕ). s ++ (hex_digit_ascii (n % 16) ∷ [])) (last_hexadecimal k (n / 16)) ∙ sym (hex_more k n)
+
+-- of the last k digits the last is d
+pub last-digit : {d : ℕ} (b k n : ℕ) → 0 < k → d ≡ hex_digit_ascii (n % b) →
+    last_digits b k n ≡ last_digits b (k - 1) (n / b) ++ (d ∷ [])
+last-digit b zero n h e = absurd (omega arith)
+last-digit b (suc k) n h e =
+    let less : suc k - 1 ≡ k = omega arith in
+    rw less (ap (λ (c : ℕ). last_digits b k (n / b) ++ (c ∷ [])) (sym e))
 
 -- ---- a line
 

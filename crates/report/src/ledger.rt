@@ -10,7 +10,8 @@ use crate::pieces::Line;
 fn month_front(month: u8, findings: u32, dismissed: u32) -> Line
     ensures { result ≡ month_front month findings dismissed }
 {
-    let mut line = Line::begin(b"month");
+    let mut line = Line::new();
+    line.add(b"month");
     line.number(u32::from(month));
     line.number(findings);
     line.number(dismissed);
@@ -43,7 +44,8 @@ pub fn no_rate_line(out: &mut [u8], month: u8, findings: u32, dismissed: u32) ->
 pub fn bend_line(out: &mut [u8], month: u8) -> usize
     ensures { Printed (bend_line month) out.old out.new result }
 {
-    let mut line = Line::begin(b"bend");
+    let mut line = Line::new();
+    line.add(b"bend");
     line.number(u32::from(month));
     line.print(out)
 }

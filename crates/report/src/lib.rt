@@ -32,7 +32,8 @@ pub fn finding_line(
     ensures { Printed (finding_line cycle block text diagnosis ta x tb y)
         out.old out.new result }
 {
-    let mut line = Line::begin(b"finding");
+    let mut line = Line::new();
+    line.add(b"finding");
     line.number(cycle);
     line.number(u32::from(block));
     line.number(u32::from(text));
@@ -47,7 +48,8 @@ pub fn finding_line(
 pub fn end_line(out: &mut [u8], cycles: u32, findings: u32) -> usize
     ensures { Printed (end_line cycles findings) out.old out.new result }
 {
-    let mut line = Line::begin(b"end");
+    let mut line = Line::new();
+    line.add(b"end");
     line.number(cycles);
     line.number(findings);
     line.print(out)
@@ -58,7 +60,8 @@ pub fn end_line(out: &mut [u8], cycles: u32, findings: u32) -> usize
 pub fn refused_line(out: &mut [u8], number: u8) -> usize
     ensures { Printed (refused_line number) out.old out.new result }
 {
-    let mut line = Line::begin(b"refused");
+    let mut line = Line::new();
+    line.add(b"refused");
     line.number(u32::from(number));
     line.print(out)
 }

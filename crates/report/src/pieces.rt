@@ -1,8 +1,9 @@
 // A line in the making: text in fixed memory, which holds every line whole.
-ghost use Rattle.std.specs.Prelude.{◌≡◌, ℕ, ◌+◌, ◌≤◌, ◌<◌, List, ◌++◌, length, take};
+ghost use Rattle.std.specs.Prelude.{◌≡◌, ℕ, ◌+◌, ◌≤◌, ◌<◌, List, [], ◌∷◌, ◌++◌, length, take};
+ghost use Rattle.io.specs.Digits.{last_digits, IsDigitCount};
 ghost use Rattle.numbers.specs.Types.{value};
 ghost use Rattle.report.specs.Decimal.{decimal, signed_decimal};
-ghost use Rattle.report.specs.LedgerLines.{hexadecimal};
+ghost use Rattle.report.specs.LedgerLines.{hex_digit, hexadecimal};
 ghost use Rattle.report.specs.Lines.{field, line_feed, Printed};
 
 use crate::LINE_MOST;
@@ -25,18 +26,61 @@ impl Model for Line {
     ghost invariant = { λ l. l.used ≤ 96 };
 }
 
+// How many digits a number has. (This, `digit` and `write_digits` stand in the place of the library's `io::decimal` and
+// `io::hex`, which divide by a base that they are given, digit by digit: a trace of many findings takes far longer with
+// them.)
+fn digit_count(n: u32) -> usize
+    ensures value { IsDigitCount 10 1 n result }
+    ensures upper_bound { result ≤ 10 }
+{
+    match n {
+        0..=9 => 1,
+        10..=99 => 2,
+        100..=999 => 3,
+        1000..=9999 => 4,
+        10000..=99999 => 5,
+        100000..=999999 => 6,
+        1000000..=9999999 => 7,
+        10000000..=99999999 => 8,
+        100000000..=999999999 => 9,
+        _ => 10,
+    }
+}
+
+// The character of a digit, a lower-case letter from 10 on.
+fn digit(d: u64) -> u8
+    requires { d < 16 }
+    ensures { result ≡ hex_digit d }
+{
+    if d < 10 {
+        b'0' + d as u8
+    } else {
+        b'a' + (d as u8 - 10)
+    }
+}
+
+// The last digits of a number in a base, as many as there are places. (The base is no parameter by value, so that the
+// compiler knows it.)
+fn write_digits<const BASE: u64>(n: u64, places: &mut [u8])
+    requires { 2 ≤ BASE × BASE ≤ 16 }
+    ensures { places.new ≡ last_digits BASE (length places.old) n }
+{
+    let mut rest = n;
+    for k in (0..places.len()).rev() {
+        places[k] = digit(rest % BASE);
+        rest /= BASE;
+    }
+}
+
 impl Line {
-    // A line that begins with a word.
-    pub fn begin(word: &[u8]) -> Line
-        requires { length word.now ≤ 96 }
-        ensures { result ≡ word.now }
+    // A line with nothing in it.
+    pub fn new() -> Line
+        ensures { result ≡ [] }
     {
-        let mut line = Line {
+        Line {
             bytes: [0; LINE_MOST],
             used: 0,
-        };
-        line.add(word);
-        line
+        }
     }
 
     // Text behind what there is.
@@ -48,14 +92,23 @@ impl Line {
         self.used += text.len();
     }
 
+    // A character behind what there is.
+    fn push(&mut self, character: u8)
+        requires { length self.old < 96 }
+        ensures { self.new ≡ self.old ++ (character ∷ []) }
+    {
+        self.bytes[self.used] = character;
+        self.used += 1;
+    }
+
     // A number in decimal.
     fn decimal(&mut self, n: u32)
         requires { length self.old + 10 ≤ 96 }
         ensures { self.new ≡ self.old ++ decimal n }
     {
-        let mut digits = [0; 20];
-        let size = io::decimal(u64::from(n), &mut digits);
-        self.add(&digits[..size]);
+        let end = self.used + digit_count(n);
+        write_digits::<10>(u64::from(n), &mut self.bytes[self.used..end]);
+        self.used = end;
     }
 
     // A space and a number.
@@ -63,7 +116,7 @@ impl Line {
         requires { length self.old + 11 ≤ 96 }
         ensures { self.new ≡ self.old ++ field (decimal n) }
     {
-        self.add(b" ");
+        self.push(b' ');
         self.decimal(n);
     }
 
@@ -73,9 +126,9 @@ impl Line {
         ensures { self.new ≡ self.old ++ field (signed_decimal (value t w)) }
     {
         let v = t.load(w);
-        self.add(b" ");
+        self.push(b' ');
         if v.neg {
-            self.add(b"-");
+            self.push(b'-');
         }
         self.decimal(v.mag as u32);
     }
@@ -86,17 +139,17 @@ impl Line {
         ensures { self.new ≡ self.old ++ field (hexadecimal 16 n) }
     {
         let mut digits = [0; 16];
-        let count = io::hex(n, 16, &mut digits);
-        self.add(b" ");
-        self.add(&digits[..count]);
+        write_digits::<16>(n, &mut digits);
+        self.push(b' ');
+        self.add(&digits);
     }
 
     // The line and its line feed, at the front of a buffer. Answers how long it is.
-    pub fn print(mut self, out: &mut [u8]) -> usize
-        requires { length self < 96 }
-        ensures { Printed (self ++ line_feed) out.old out.new result }
+    pub fn print(&mut self, out: &mut [u8]) -> usize
+        requires { length self.old < 96 }
+        ensures { Printed (self.old ++ line_feed) out.old out.new result }
     {
-        self.add(b"\n");
+        self.push(b'\n');
         wire::put(out, 0, &self.bytes[..self.used]);
         self.used
     }

@@ -2,14 +2,14 @@
 -- zeros; how many places are hit; and what their entries are. Assumes nothing.
 use Rattle.wire.proofs.Usual.{◌≡◌, refl, sym, ap, ap₂, ◌∙◌, Bool, true, false, cond, not, ◌&&◌, List, []}
 use Rattle.wire.proofs.Usual.{◌++◌, append-nil, ℕ_discrete}
-use Rattle.wire.proofs.Usual.{ℕ, zero, suc, ◌+◌, ◌-◌, ◌*◌, ◌<◌, ◌≤◌, arith, length, take, drop}
+use Rattle.wire.proofs.Usual.{ℕ, zero, suc, ◌+◌, ◌-◌, ◌*◌, ◌<◌, ◌≤◌, zero-add, arith, length, take, drop}
 use Rattle.wire.proofs.Usual.{replicate, length-append, length-replicate, length-drop, sets}
 use mathlib.Core.List.{append_assoc}
 use native.Mathlib.Nat.{suc-sub-suc, zero-sub, sub-zero, add-zero, mul-zero, mul-suc, mul-le-mul_left, not-suc-le-zero}
 use native.Mathlib.Numerals.{add-one}
 use borrow.Author.Tests.{not-false}
 use lib.ListN.{replicate-append-replicate, take-append-drop}
-use lib.Seq.{sets-eq, take_at, drop_at, drop-append-add, drop-append-le, drop-drop, take_all}
+use lib.Seq.{sets-eq, take_at, drop_at, drop-append-add, drop-append-le, drop-drop, drop-length, take_all}
 use Rattle.wire.specs.Packed.{entries, hits, packed}
 use Rattle.wire.proofs.Records.{apart}
 use Rattle.wire.proofs.Stores.{part_front}
@@ -32,6 +32,12 @@ pub record Kept (w : ℕ) (hit : ℕ → Bool) (f : ℕ → List ℕ) (s buffer 
   pub count : k ≡ hits b hit
   pub size : length (entries b hit f) ≡ w * k
   pub list : buffer ≡ packed (w * b) b hit f ++ drop (w * b) s
+
+-- a run of stores over a whole buffer
+pub sets_whole : (v l : List ℕ) → length v ≡ length l → sets l 0 v ≡ v
+sets_whole v l e =
+    sets-eq v l 0 (omega arith) ∙ ap (λ (t : List ℕ). v ++ t)
+    (ap (λ (k : ℕ). drop k l) (zero-add (length v) ∙ e) ∙ drop-length l) ∙ append-nil v
 
 module _ (w : ℕ) (hit : ℕ → Bool) (f : ℕ → List ℕ) where
   entries_hit : (b : ℕ) → hit b ≡ true → entries (b + 1) hit f ≡ entries b hit f ++ f b

@@ -36,17 +36,16 @@ fn counts_of(month: &[u8], c: Closings) -> Counts
     ensures findings { result.findings ≡ found c month.now }
     ensures dismissed { result.dismissed ≡ dismissed c month.now }
 {
-    let findings = month
-        .chunks_exact(rules::FINDING_SIZE)
-        .filter(|f| is_counted(f, c))
-        .count();
-    let dismissed = month
-        .chunks_exact(rules::FINDING_SIZE)
-        .filter(|f| is_counted(f, c) & is_dismissed(f))
-        .count();
+    let mut findings = 0;
+    let mut dismissed = 0;
+    for f in month.chunks_exact(rules::FINDING_SIZE) {
+        let counted = is_counted(f, c);
+        findings += u32::from(counted);
+        dismissed += u32::from(counted & is_dismissed(f));
+    }
     Counts {
-        findings: findings as u32,
-        dismissed: dismissed as u32,
+        findings,
+        dismissed,
     }
 }
 

@@ -23,15 +23,12 @@ unfolding findings_left dismissed_left rates_left bends_left
 returns-in-Ok c =
     let F = c.args.file.now in
     let e = sym c.year_of.ensures ∙ c.in-Ok.is in
-    let s = c.columns_of-columns.ensures in
+    let s = c.columns_of.ensures in
     record {
       answered = sym (ap answer_number e) ∙ year_number F;
-      found = c.copy_from_slice.ensures.after ∙ ap (λ (k : Columns). k.findings) s
-          ∙ stored (λ w. (columns_in w).findings) _ e;
-      gone = c.copy_from_slice-in-Ok.ensures.after ∙ ap (λ (k : Columns). k.dismissed) s
-          ∙ stored (λ w. (columns_in w).dismissed) _ e;
-      rated = c.copy_from_slice-in-Ok-2.ensures.after ∙ ap (λ (k : Columns). k.rates) s
-          ∙ stored (λ w. (columns_in w).rates) _ e;
+      found = ap (λ (k : Columns). k.findings) s ∙ stored (λ w. (columns_in w).findings) _ e;
+      gone = ap (λ (k : Columns). k.dismissed) s ∙ stored (λ w. (columns_in w).dismissed) _ e;
+      rated = ap (λ (k : Columns). k.rates) s ∙ stored (λ w. (columns_in w).rates) _ e;
       bent = c.bends_of.ensures ∙ stored bends_in _ e;
     }
 

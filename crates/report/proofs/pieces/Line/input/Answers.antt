@@ -22,9 +22,9 @@ returns c =
     elim c.if-v.branch [
       | then-v w ↦
           rw (← (signed_minus z (sym sign ∙ w.if-v.true)), ← magnitude)
-          (next_of _ 32 _ c.add.ensures
-          (next_of _ 45 _ w.add-then-v.ensures (rw w.self-is at c.decimal.ensures)))
+          (next_of _ 32 _ c.push.ensures
+          (next_of _ 45 _ w.push-then-v.ensures (rw w.self-is at c.decimal.ensures)))
       | else-v w ↦
           rw (← (signed_plain z (sym sign ∙ w.if-v.false)), ← magnitude)
-          (next_of _ 32 _ c.add.ensures (rw w.self-is at c.decimal.ensures))
+          (next_of _ 32 _ c.push.ensures (rw w.self-is at c.decimal.ensures))
     ]
