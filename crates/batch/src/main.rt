@@ -12,6 +12,9 @@
 // line on standard error; answers already given stand.
 #![tactic(auto)]
 
+ghost use Rattle.std.specs.Prelude.{IfOk, length};
+ghost use Rattle.io.specs.Counts.{IsPrefixLen};
+
 mod ledgers;
 
 use evaluator::Refusal;
@@ -76,7 +79,9 @@ fn complain(request: u64, fault: Fault) {
 }
 
 // The next buffer, at the start of `room`.
-fn receive(room: &mut [u8]) -> Result<&mut [u8], Fault> {
+fn receive(room: &mut [u8]) -> Result<&mut [u8], Fault>
+    ensures { IfOk result (λ buffer. IsPrefixLen (length buffer.now) room.old) }
+{
     let mut length = [0u8; 4];
     if io::read_full(STDIN_FILENO, &mut length) < 4 {
         return Err(Fault::BrokenOff);
