@@ -31,7 +31,8 @@ pub fn size(file: &[u8], e: u8) -> u32
     word_of(file, e, 4)
 }
 
-// The number in the four bytes from i on, which the file has.
+// The number in the four bytes from i on, which the file has. (`wire::read32` looks at the file's size for each number,
+// which is most of the time that a file takes that is turned down early.)
 fn word(file: &[u8], i: usize) -> u32
     requires { i + 4 ≤ length file.now }
     ensures { result ≡ le32 file.now i }

@@ -1,3 +1,3 @@
+pub mod Columns
 pub mod Counts
-pub mod Halves
 pub mod Signs

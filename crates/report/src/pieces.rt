@@ -62,7 +62,7 @@ fn digit(d: u64) -> u8
 // The last digits of a number in a base, as many as there are places. (The base is no parameter by value, so that the
 // compiler knows it.)
 fn write_digits<const BASE: u64>(n: u64, places: &mut [u8])
-    requires { 2 ≤ BASE × BASE ≤ 16 }
+    requires { 0 < BASE × BASE ≤ 16 }
     ensures { places.new ≡ last_digits BASE (length places.old) n }
 {
     let mut rest = n;
@@ -147,7 +147,8 @@ impl Line {
     // The line and its line feed, at the front of a buffer. Answers how long it is.
     pub fn print(&mut self, out: &mut [u8]) -> usize
         requires { length self.old < 96 }
-        ensures { Printed (self.old ++ line_feed) out.old out.new result }
+        ensures made { self.new ≡ self.old ++ line_feed }
+        ensures printed { Printed (self.old ++ line_feed) out.old out.new result }
     {
         self.push(b'\n');
         wire::put(out, 0, &self.bytes[..self.used]);

@@ -1,7 +1,7 @@
 -- Each place of a column is filled from its line.
 use Rattle.std.proofs.Common.{rules, ◌≡◌, ◌+◌, ap₂, length}
 use Rattle.hagglethwait.specs.Ledgers.{columns_of}
-use Rattle.hagglethwait.proofs.Halves.{column_is}
+use Rattle.hagglethwait.proofs.Columns.{column_is}
 use Rattle.hagglethwait.proofs.ledgers.columns_of.Goals as goal
 
 pub returns : goal.returns
